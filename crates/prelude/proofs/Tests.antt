@@ -1,0 +1,53 @@
+-- What closes a return of a chain of tests, against a definition that tests in the same order: `search tests`.
+-- Where a test is a call, its `ensures` goes into the list, turned round: `search (tests, sym (c .before .is-sound .ensures))`.
+-- Assumes nothing.
+use Prim.Native.Nat.{ℕ}
+use mathlib.Core.Bool.{Bool, true, false}
+use mathlib.Core.Path.{_≡_, refl, sym}
+use lib.Dec.{eqb}
+use borrow.Author.Needs.{needs}
+use borrow.Author.Tests.{lt-ltb, le-ltb, le-leb, lt-leb, eq-eqb, ne-eqb, not-true, not-false}
+use Rattle.prelude.specs.Choice.{if_then_else_}
+
+pub if-true : {A : Type 0} (t : Bool) (a b : A) → t ≡ true → (if t then a else b) ≡ a
+unfolding if_then_else_
+if-true t a b h = rw h
+
+pub if-false : {A : Type 0} (t : Bool) (a b : A) → t ≡ false → (if t then a else b) ≡ b
+unfolding if_then_else_
+if-false t a b h = rw h
+
+-- what holds of both choices, each where its test says so, holds of the choice
+pub if-cases : {A : Type 0} (P : A → Type 0) (t : Bool) (a b : A) → (t ≡ true → P a) → (t ≡ false → P b) → P (if t then a else b)
+unfolding if_then_else_
+if-cases P true a b p q = p refl
+if-cases P false a b p q = q refl
+
+-- the parts of a test, where the whole holds
+pub if-not-first : (t u : Bool) → (if t then false else u) ≡ true → t ≡ false
+unfolding if_then_else_
+if-not-first true u h = sym h
+if-not-first false u h = refl
+
+pub if-not-second : (t u : Bool) → (if t then false else u) ≡ true → u ≡ true
+unfolding if_then_else_
+if-not-second true true h = refl
+if-not-second true false h = h
+if-not-second false u h = h
+
+pub if-first : (t u : Bool) → (if t then u else false) ≡ true → t ≡ true
+unfolding if_then_else_
+if-first true u h = refl
+if-first false u h = h
+
+pub if-second : (t u : Bool) → (if t then u else false) ≡ true → u ≡ true
+unfolding if_then_else_
+if-second true u h = h
+if-second false true h = refl
+if-second false false h = h
+
+-- n is k, and k is not m
+pub eqb-other : (n m k : ℕ) → n ≡ k → eqb k m ≡ false → eqb n m ≡ false
+eqb-other n m k h e = rw h e
+
+pub ruleset tests = (needs, if-true, if-false, lt-ltb, le-ltb, le-leb, lt-leb, eq-eqb, ne-eqb, eqb-other, not-true, not-false)

@@ -1,0 +1,79 @@
+-- The decision on Set Link: its checks in order (document 01, Set Link, "Checks in order, answer as response/reason").
+use Prim.Native.Nat.{ℕ, _/_, _^_}
+use mathlib.Core.Bool.{Bool}
+use lib.Dec.{eqb, ltb}
+use Rattle.prelude.specs.Bits.{bits, isSet}
+use Rattle.prelude.specs.Choice.{if_then_else_}
+use Rattle.setlink.specs.declared.Media.{Media}
+use Rattle.setlink.specs.declared.Media.the-variants.{Copper}
+use Rattle.setlink.specs.declared.Decision.{Decision}
+use Rattle.setlink.specs.Word.{autoNegotiation, speed1000, speed10G, halfDuplex, noSpeed, speeds, duplexes, pairs, anyFits}
+
+-- response codes of DSP0222
+abbrev pub completed : ℕ
+completed = 0x0000
+
+abbrev pub failed : ℕ
+failed = 0x0001
+
+-- its reason codes
+abbrev pub noReason : ℕ
+noReason = 0x0000
+
+abbrev pub invalidParameter : ℕ
+invalidParameter = 0x0002
+
+abbrev pub hostConflict : ℕ
+hostConflict = 0x0901
+
+abbrev pub mediaConflict : ℕ
+mediaConflict = 0x0902
+
+abbrev pub parameterConflict : ℕ
+parameterConflict = 0x0903
+
+abbrev pub speedConflict : ℕ
+speedConflict = 0x0905
+
+-- check 3, "Auto-negotiation: refused .. exactly when no selected speed and selected duplex form a valid pair."; "Valid for the device means valid on copper."
+unfoldable pub negotiatedReason : ℕ → ℕ
+negotiatedReason word = if anyFits Copper word pairs then noReason else invalidParameter
+
+-- check 4, "Forced: more than one speed 0x0905; not exactly one duplex 0x0002 (none is house); 1000 or 10G with half 0x0903; 10G with full 0x0002 (house)."
+unfoldable pub forcedReason : ℕ → ℕ
+forcedReason word =
+    if ltb 1 (speeds word) then speedConflict else
+    if eqb (duplexes word) 0 then invalidParameter else
+    if ltb 1 (duplexes word) then invalidParameter else
+    if isSet halfDuplex word then
+    (if isSet speed1000 word then parameterConflict else
+    if isSet speed10G word then parameterConflict else
+    noReason)
+    else
+    if isSet speed10G word then invalidParameter else
+    noReason
+
+unfoldable pub parameterReason : ℕ → ℕ
+parameterReason word = if isSet autoNegotiation word then negotiatedReason word else forcedReason word
+
+-- why a word is refused, or no reason: check 1, "Host driver present"; check 2, "Any of bits 5 to 7 or 12 to 31 set (house), or no speed"; checks 3 and 4; check 5, "No selected valid pair fits the media".
+-- A word has 32 bits, so that bits 12 to 31 are what its division by 2 ^ 12 leaves.
+unfoldable pub reason : ℕ → Bool → Media → ℕ
+reason word hostPresent media =
+    if hostPresent then hostConflict else
+    if ltb 0 (bits 5 3 word) then invalidParameter else
+    if ltb 0 (word / 2 ^ 12) then invalidParameter else
+    if noSpeed word then invalidParameter else
+    if ltb 0 (parameterReason word) then parameterReason word else
+    if anyFits media word pairs then noReason else
+    mediaConflict
+
+-- check 6, "Else 0x0000/0x0000, and the word becomes the setting in force. A refusal keeps the old word."
+unfoldable pub decided : ℕ → ℕ → Bool → Media → Decision
+decided inForce word hostPresent media =
+    if eqb (reason word hostPresent media) noReason then record { response = completed; reason = noReason; «in_force» = word } else
+    record { response = failed; reason = reason word hostPresent media; «in_force» = inForce }
+
+-- "The fresh word is 0, and any old word is taken as it is."
+abbrev pub freshWord : ℕ
+freshWord = 0

@@ -1,0 +1,3 @@
+pub mod Decide
+pub mod Properties
+pub mod Word

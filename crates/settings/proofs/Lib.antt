@@ -1,0 +1,3 @@
+pub mod Properties
+pub mod Sound
+pub mod Writes

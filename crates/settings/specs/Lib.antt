@@ -1,0 +1,3 @@
+pub mod Enable
+pub mod Properties
+pub mod Record

@@ -1,0 +1,91 @@
+// The receive settings that the Intel I210 keeps, as a record in bytes that the caller lends, and
+// Receive Enable (data sheet, Table 10-10) judged and applied to it.
+//
+// A record is the first SIZE bytes of what is lent; bytes past them never change.
+mod enable;
+
+pub use enable::Enabled;
+pub use enable::receive_enable;
+ghost use mathlib.Core.Path.{_≡_};
+ghost use Rattle.settings.specs.Record.{allowed, hasItsMac, sound};
+ghost use Rattle.settings.specs.Enable.{answered, freshened};
+
+pub const SIZE: usize = 15;
+
+// Offsets in a record.
+pub const CONTROL: usize = 0;
+
+pub const KEPT: usize = 1;
+
+pub const MAC: usize = 2;
+
+pub const IPV4: usize = 8;
+
+pub const UNREAD: usize = 12;
+
+const DONE: u32 = 0;
+
+const TOO_SHORT: u32 = 12;
+
+const FRESH: [u8; SIZE] = [0x40, 0, 0, 0, 0, 0, 0, 0, 0, 0, 0, 0, 0, 0, 0];
+
+// Writes a fresh record and answers 0, or answers 12 and changes nothing where there are fewer than
+// SIZE bytes.
+pub fn fresh(settings: &mut [u8]) -> u32
+    ensures { λ r. ⌜ answered r (now (settings .exit)) ≡ freshened (now (settings .entry)) ⌝ }
+{
+    if settings.len() < SIZE {
+        return TOO_SHORT;
+    }
+    let fresh = FRESH;
+    bytes::copy(&fresh, settings);
+    DONE
+}
+
+// Whether there are SIZE bytes or more and they hold a sound record.
+pub fn is_sound(settings: &[u8]) -> bool
+    ensures { λ r. ⌜ r ≡ sound (now (settings .entry)) ⌝ }
+{
+    if settings.len() < SIZE {
+        return false;
+    }
+    let control = settings[CONTROL];
+    if !is_allowed(control) {
+        return false;
+    }
+    let kept = settings[KEPT];
+    if 3 < kept {
+        return false;
+    }
+    has_its_mac(control, kept)
+}
+
+// Whether a control byte is allowed: bit 6 set, a notification method that exists, and a
+// dedicated MAC address only where packets are received.
+pub(crate) fn is_allowed(control: u8) -> bool
+    ensures { λ r. ⌜ r ≡ allowed control ⌝ }
+{
+    if control / 64 % 2 != 1 {
+        return false;
+    }
+    if control / 16 % 4 == 3 {
+        return false;
+    }
+    if control % 2 == 1 {
+        return true;
+    }
+    if control / 128 % 2 == 1 {
+        return false;
+    }
+    true
+}
+
+// Whether the MAC address that the control byte asks for is kept.
+pub(crate) fn has_its_mac(control: u8, kept: u8) -> bool
+    ensures { λ r. ⌜ r ≡ hasItsMac control kept ⌝ }
+{
+    if control / 128 % 2 == 1 {
+        return kept % 2 == 1;
+    }
+    true
+}

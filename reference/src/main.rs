@@ -1,0 +1,76 @@
+//! Generates test cases and answers them.
+//!
+//! Cases are ASCII lines ended by a line feed. An empty line and a line that
+//! starts with `#` are copied to the answers. Every other line is an operation
+//! and its fields, parted by single spaces. A field is a byte string in
+//! lower-case hexadecimal, `-` for no bytes; a number is a byte string of the
+//! size given below, high byte first; a bool is 00 or 01. The answer to a case
+//! is one line of such fields.
+//!
+//! | case | answer |
+//! |---|---|
+//! | `link IN_FORCE/4 WORD/4 HOST_PRESENT/1 MEDIA/1` | `RESPONSE/2 REASON/2 IN_FORCE/4` |
+//! | `links IN_FORCE/4 FROM/4 COUNT/2` | `DIGEST/4` |
+//! | `write-status STATUS` | `ANSWER/1 BLOCK/8` |
+//! | `read-status BLOCK` | `ANSWER/1 STATUS` |
+//! | `fresh-settings SETTINGS` | `ANSWER/1 SETTINGS` |
+//! | `sound-settings SETTINGS` | `SOUND/1` |
+//! | `enable SETTINGS DATA` | `ANSWER/1 SETTINGS` |
+//! | `mac SETTINGS FLASH` | `SOURCE/1 PART` |
+//! | `ipv4 SETTINGS FLASH` | `SOURCE/1 PART` |
+//!
+//! The medium is 00 for copper and 01 for fibre. `links` judges COUNT words
+//! from FROM on, each with the same word in force: host driver absent on
+//! copper, absent on fibre, present on copper, present on fibre; its digest is
+//! over the bytes of the answers that `link` would give. STATUS stands for the
+//! fields `LENGTH/2 VLAN/2 DECISION_MATCH/1 DECISION_INDEX/1 VLAN_MATCH/1
+//! VLAN_INDEX/1`. SOURCE is 00 for no address, 01 for the record and 02 for the
+//! Flash block.
+
+#![forbid(unsafe_code)]
+
+mod answer;
+mod generate;
+mod random;
+mod text;
+
+use std::env;
+use std::ffi::OsString;
+use std::io::{self, BufWriter, Write};
+use std::process::ExitCode;
+
+const USAGE: &str = "usage: reference generate | reference answer";
+const EXIT_FAILURE: u8 = 1;
+const EXIT_USAGE: u8 = 2;
+
+fn main() -> ExitCode {
+    let arguments: Vec<OsString> = env::args_os().skip(1).collect();
+    let result = match arguments.as_slice() {
+        [mode] if mode == "generate" => print_cases(),
+        [mode] if mode == "answer" => print_answers(),
+        _ => {
+            eprintln!("{USAGE}");
+            return ExitCode::from(EXIT_USAGE);
+        }
+    };
+    match result {
+        Ok(()) => ExitCode::SUCCESS,
+        Err(message) => {
+            eprintln!("{message}");
+            ExitCode::from(EXIT_FAILURE)
+        }
+    }
+}
+
+fn print_cases() -> Result<(), String> {
+    io::stdout()
+        .write_all(generate::cases().as_bytes())
+        .map_err(|error| format!("standard output: {error}"))
+}
+
+fn print_answers() -> Result<(), String> {
+    let mut output = BufWriter::new(io::stdout().lock());
+    let result = answer::answer_all(&mut io::stdin().lock(), &mut output);
+    output.flush().map_err(|error| format!("standard output: {error}"))?;
+    result
+}

@@ -1,0 +1,306 @@
+//! Rules stated another way round than the program has them.
+
+use reference::setlink::{decide, Decision, Media};
+use reference::settings::{fresh, ipv4_in_force, is_sound, mac_in_force, receive_enable};
+use reference::status::{read, write, StatusData};
+
+/// Speed bit and duplex bit of every pair, with the media that take it.
+const PAIRS: [(u32, u32, &[Media]); 8] = [
+    (1, 8, &[Media::Copper]),
+    (1, 9, &[Media::Copper]),
+    (2, 8, &[Media::Copper]),
+    (2, 9, &[Media::Copper]),
+    (3, 8, &[]),
+    (3, 9, &[Media::Copper, Media::Fibre]),
+    (4, 8, &[]),
+    (4, 9, &[]),
+];
+
+fn bit(word: u32, number: u32) -> bool {
+    word >> number & 1 == 1
+}
+
+/// The reason for refusing a word, by looking at each pair it selects.
+fn reason_by_pairs(word: u32, host_driver_present: bool, media: Media) -> u16 {
+    let pairs: Vec<_> =
+        PAIRS.iter().filter(|(speed, duplex, _)| bit(word, *speed) && bit(word, *duplex)).collect();
+    let takes = |media| pairs.iter().any(|(_, _, taken_by)| taken_by.contains(&media));
+    let speeds = (1..=4).filter(|speed| bit(word, *speed)).count();
+    let reserved = (5..=7).chain(12..=31).any(|number| bit(word, number));
+
+    let mut reasons = Vec::new();
+    if host_driver_present {
+        reasons.push(0x0901);
+    }
+    if reserved || speeds == 0 {
+        reasons.push(0x0002);
+    }
+    if bit(word, 0) {
+        if !takes(Media::Copper) {
+            reasons.push(0x0002);
+        }
+    } else if speeds > 1 {
+        reasons.push(0x0905);
+    } else if let [&(speed, duplex, taken_by)] = pairs[..] {
+        // One speed and one pair, hence one duplex.
+        if speed >= 3 && duplex == 8 {
+            reasons.push(0x0903);
+        } else if taken_by.is_empty() {
+            reasons.push(0x0002);
+        }
+    } else {
+        reasons.push(0x0002);
+    }
+    if !takes(media) {
+        reasons.push(0x0902);
+    }
+    reasons.first().copied().unwrap_or(0)
+}
+
+#[test]
+fn set_link_agrees_with_the_pairs() {
+    let low = 0..8192;
+    let with_a_high_bit = (12..32).flat_map(|number| (0..4096).map(move |word| word | 1 << number));
+    for word in low.chain(with_a_high_bit) {
+        for host_driver_present in [false, true] {
+            for media in [Media::Copper, Media::Fibre] {
+                let reason = reason_by_pairs(word, host_driver_present, media);
+                let expected = if reason == 0 {
+                    Decision { response: 0, reason: 0, in_force: word }
+                } else {
+                    Decision { response: 1, reason, in_force: 0x5a5a_5a5a }
+                };
+                let decision = decide(0x5a5a_5a5a, word, host_driver_present, media);
+                assert_eq!(decision, expected, "{word:#x} {host_driver_present} {media:?}");
+            }
+        }
+    }
+}
+
+/// Every pair of match and index that is allowed, up to the highest index.
+fn matches(highest: u8) -> Vec<(bool, u8)> {
+    let mut matches = vec![(false, 0)];
+    matches.extend((0..=highest).map(|index| (true, index)));
+    matches
+}
+
+fn all_status_data(lengths: &[u16], vlans: &[u16]) -> Vec<StatusData> {
+    let mut all = Vec::new();
+    for &length in lengths {
+        for &vlan in vlans {
+            for (decision_match, decision_index) in matches(15) {
+                for (vlan_match, vlan_index) in matches(7) {
+                    all.push(StatusData {
+                        length,
+                        vlan,
+                        decision_match,
+                        decision_index,
+                        vlan_match,
+                        vlan_index,
+                    });
+                }
+            }
+        }
+    }
+    all
+}
+
+#[test]
+fn what_is_written_is_read_back() {
+    let lengths: Vec<u16> = (1..=1536).collect();
+    for fields in all_status_data(&lengths, &[0, 0x1234, 0xffff]) {
+        let (answer, block) = write(&fields);
+        assert_eq!(answer, 0, "{fields:?}");
+        assert_eq!(read(&block), (0, fields));
+    }
+}
+
+#[test]
+fn nothing_is_read_but_what_is_written() {
+    let written: Vec<[u8; 8]> =
+        all_status_data(&[300], &[0x1234]).iter().map(|fields| write(fields).1).collect();
+    for value in 0..=0xffff_u16 {
+        let [low, high] = value.to_le_bytes();
+        let block = [0x2c, 1, 1, 0, 0x34, 0x12, low, high];
+        assert_eq!(read(&block).0 == 0, written.contains(&block), "MNG status {value:#x}");
+        let block = [low, high, 1, 0, 0x34, 0x12, 0, 0];
+        assert_eq!(read(&block).0 == 0, (1..=1536).contains(&value), "length {value}");
+        let block = [0x2c, 1, low, high, 0x34, 0x12, 0, 0];
+        assert_eq!(read(&block).0 == 0, value == 1, "packet status {value:#x}");
+        let block = [0x2c, 1, 1, 0, low, high, 0, 0];
+        assert_eq!(read(&block).1.vlan, value);
+    }
+}
+
+#[test]
+fn every_field_is_written_or_refused() {
+    for decision_index in 0..=255 {
+        for vlan_index in 0..=255 {
+            for (decision_match, vlan_match) in
+                [(false, false), (false, true), (true, false), (true, true)]
+            {
+                let fields = StatusData {
+                    length: 60,
+                    vlan: 7,
+                    decision_match,
+                    decision_index,
+                    vlan_match,
+                    vlan_index,
+                };
+                let allowed = matches(15).contains(&(decision_match, decision_index))
+                    && matches(7).contains(&(vlan_match, vlan_index));
+                let (answer, block) = write(&fields);
+                assert_eq!(answer, if allowed { 0 } else { 15 }, "{fields:?}");
+                assert_eq!(block == [0; 8], !allowed, "{fields:?}");
+            }
+        }
+    }
+}
+
+/// The control bytes that are allowed, put together from their fields.
+fn allowed_controls() -> Vec<u8> {
+    let mut controls = Vec::new();
+    for notification_method in 0..3 {
+        for low_bits in 0..16 {
+            let control = 64 + 16 * notification_method + low_bits;
+            controls.push(control);
+            if low_bits % 2 == 1 {
+                controls.push(control + 128);
+            }
+        }
+    }
+    controls
+}
+
+#[test]
+fn sound_records_are_those_with_an_allowed_control_and_kept_bits() {
+    for control in 0..=255 {
+        for kept in 0..=255 {
+            let mut record = [0x77; 15];
+            record[0] = control;
+            record[1] = kept;
+            let kept_bits: &[u8] = if control < 128 { &[0, 1, 2, 3] } else { &[1, 3] };
+            let expected = allowed_controls().contains(&control) && kept_bits.contains(&kept);
+            assert_eq!(is_sound(&record), expected, "{control:#x} {kept}");
+        }
+    }
+}
+
+/// Receive Enable commands of every kind, told apart by their bytes.
+fn commands() -> Vec<Vec<u8>> {
+    let mut commands = vec![vec![], vec![0x41, 0x41], vec![0x41; 13], vec![0xc9; 15]];
+    for (number, control) in
+        [0x40, 0x41, 0x49, 0x69, 0xc1, 0xc9, 0x01, 0x71, 0xc0].into_iter().enumerate()
+    {
+        commands.push(vec![control]);
+        let mut long: Vec<u8> = (0..14).map(|place| 16 * number as u8 + place).collect();
+        long[0] = control;
+        commands.push(long);
+    }
+    commands
+}
+
+/// The record left by a list of commands, found by searching the list.
+fn record_by_search(list: &[Vec<u8>]) -> [u8; 15] {
+    let allowed = |data: &[u8]| {
+        (data.len() == 1 || data.len() == 14) && allowed_controls().contains(&data[0])
+    };
+    let long_forms =
+        |upto: usize| list[..upto].iter().rev().filter(|data| data.len() == 14 && allowed(data));
+    let last_mac = |upto: usize| long_forms(upto).find(|data| data[0] >= 128);
+    let last_address = long_forms(list.len()).find(|data| data[0] & 8 == 8);
+    let last_taken = (0..list.len()).rev().find(|&place| {
+        let data = &list[place];
+        allowed(data) && (data[0] < 128 || data.len() == 14 || last_mac(place).is_some())
+    });
+
+    let mut record = [0; 15];
+    record[0] = last_taken.map_or(0x40, |place| list[place][0]);
+    if let Some(data) = last_mac(list.len()) {
+        record[1] += 1;
+        record[2..8].copy_from_slice(&data[1..7]);
+    }
+    if let Some(data) = last_address {
+        record[1] += 2;
+        record[8..12].copy_from_slice(&data[7..11]);
+    }
+    if let Some(data) = long_forms(list.len()).next() {
+        record[12..15].copy_from_slice(&data[11..14]);
+    }
+    record
+}
+
+#[test]
+fn settings_are_those_found_in_the_list() {
+    let commands = commands();
+    for first in &commands {
+        for second in &commands {
+            for third in &commands {
+                let list = [first.clone(), second.clone(), third.clone()];
+                let mut lent = [0x99; 18];
+                fresh(&mut lent);
+                for (place, data) in list.iter().enumerate() {
+                    let before = lent;
+                    let answer = receive_enable(&mut lent, data);
+                    assert!((8..=11).contains(&answer));
+                    if answer != 11 {
+                        assert_eq!(lent, before, "{list:x?}");
+                    }
+                    assert_eq!(lent[..15], record_by_search(&list[..=place]), "{list:x?}");
+                    assert_eq!(lent[15..], [0x99; 3]);
+                    assert!(is_sound(&lent));
+                }
+            }
+        }
+    }
+}
+
+#[test]
+fn refused_records_are_left_alone() {
+    for length in 0..20 {
+        for control in 0..=255 {
+            for kept in 0..6 {
+                let mut record = vec![0x33; length];
+                for (byte, value) in record.iter_mut().zip([control, kept]) {
+                    *byte = value;
+                }
+                let before = record.clone();
+                let sound = is_sound(&record);
+                let answer = receive_enable(&mut record, &[0xc9; 14]);
+                match answer {
+                    12 => assert!(length < 15),
+                    13 => assert!(length >= 15 && !sound),
+                    _ => assert!(answer == 11 && sound),
+                }
+                if answer != 11 {
+                    assert_eq!(record, before);
+                }
+            }
+        }
+    }
+}
+
+#[test]
+fn addresses_are_parts_of_the_buffer_they_come_from() {
+    let record: [u8; 16] = std::array::from_fn(|place| 100 + place as u8);
+    let flash: [u8; 11] = std::array::from_fn(|place| 200 + place as u8);
+    for control in allowed_controls() {
+        for kept in 0..4 {
+            let mut record = record;
+            record[0] = control;
+            record[1] = kept;
+            let mac = mac_in_force(&record, &flash).part();
+            let ipv4 = ipv4_in_force(&record, &flash).part();
+            if control >= 128 && kept % 2 == 0 {
+                assert!(mac.is_empty() && ipv4.is_empty());
+                continue;
+            }
+            let first_of_mac = if control >= 128 { &record[2] } else { &flash[0] };
+            let first_of_ipv4 = if kept >= 2 { &record[8] } else { &flash[6] };
+            assert_eq!(mac.len(), 6);
+            assert_eq!(ipv4.len(), 4);
+            assert!(std::ptr::eq(&mac[0], first_of_mac));
+            assert!(std::ptr::eq(&ipv4[0], first_of_ipv4));
+        }
+    }
+}

@@ -1,0 +1,162 @@
+//! The worked examples, and one example of each answer.
+
+use reference::answer_numbers::{
+    CONTROL_NOT_ALLOWED, DONE, NOT_SOUND, NO_MAC_KEPT, RECEIVE_ENABLE_LENGTH, RECEIVE_ENABLE_TAKEN,
+    STATUS_NOT_ALLOWED, TOO_SHORT,
+};
+use reference::setlink::{decide, Decision, Media, FRESH_WORD};
+use reference::settings::{
+    fresh, ipv4_in_force, is_sound, mac_in_force, receive_enable, AddressInForce,
+};
+use reference::status::{read, write, StatusData};
+
+const FLASH: [u8; 10] = [0x00, 0xa0, 0xc9, 1, 2, 3, 203, 0, 113, 9];
+const LONG: [u8; 14] = [0xc9, 2, 3, 4, 5, 6, 7, 8, 9, 10, 11, 12, 13, 14];
+
+fn fresh_record() -> [u8; 15] {
+    let mut record = [0xee; 15];
+    assert_eq!(fresh(&mut record), DONE);
+    record
+}
+
+#[test]
+fn answer_numbers() {
+    assert_eq!(DONE, 0);
+    assert_eq!(RECEIVE_ENABLE_LENGTH, 8);
+    assert_eq!(CONTROL_NOT_ALLOWED, 9);
+    assert_eq!(NO_MAC_KEPT, 10);
+    assert_eq!(RECEIVE_ENABLE_TAKEN, 11);
+    assert_eq!(TOO_SHORT, 12);
+    assert_eq!(NOT_SOUND, 13);
+    assert_eq!(STATUS_NOT_ALLOWED, 15);
+}
+
+#[test]
+fn set_link() {
+    let accepted = [(0x219, Media::Copper), (0x10d, Media::Copper)];
+    for (word, media) in accepted {
+        assert_eq!(
+            decide(FRESH_WORD, word, false, media),
+            Decision { response: 0x0000, reason: 0x0000, in_force: word },
+            "word {word:#x}"
+        );
+    }
+    let refused = [
+        (0x109, Media::Copper, 0x0002),
+        (0x10d, Media::Fibre, 0x0902),
+        (0x30c, Media::Copper, 0x0905),
+        (0x211, Media::Copper, 0x0002),
+        (0x304, Media::Copper, 0x0002),
+        (0x108, Media::Copper, 0x0903),
+        (0x110, Media::Copper, 0x0903),
+        (0x210, Media::Copper, 0x0002),
+    ];
+    for (word, media, reason) in refused {
+        assert_eq!(
+            decide(0x204, word, false, media),
+            Decision { response: 0x0001, reason, in_force: 0x204 },
+            "word {word:#x}"
+        );
+    }
+    assert_eq!(
+        decide(0x204, 0x219, true, Media::Copper),
+        Decision { response: 0x0001, reason: 0x0901, in_force: 0x204 }
+    );
+}
+
+#[test]
+fn status_data() {
+    let examples = [
+        (
+            StatusData {
+                length: 64,
+                decision_match: true,
+                decision_index: 7,
+                ..Default::default()
+            },
+            [0x40, 0x00, 0x01, 0x00, 0x00, 0x00, 0x70, 0x01],
+        ),
+        (
+            StatusData {
+                length: 1536,
+                vlan: 0x0123,
+                vlan_match: true,
+                vlan_index: 5,
+                ..Default::default()
+            },
+            [0x00, 0x06, 0x01, 0x00, 0x23, 0x01, 0x0d, 0x00],
+        ),
+    ];
+    for (fields, block) in examples {
+        assert_eq!(write(&fields), (0, block));
+        assert_eq!(read(&block), (0, fields));
+    }
+}
+
+#[test]
+fn status_data_refused() {
+    assert_eq!(write(&StatusData { length: 1537, ..Default::default() }), (15, [0; 8]));
+    assert_eq!(read(&[0; 8]), (15, StatusData::default()));
+    assert_eq!(read(&[0x40, 0, 1, 0, 0, 0, 0]), (15, StatusData::default()));
+}
+
+#[test]
+fn fresh_settings() {
+    let mut record = [0xee; 17];
+    assert_eq!(fresh(&mut record), 0);
+    assert_eq!(record, [0x40, 0, 0, 0, 0, 0, 0, 0, 0, 0, 0, 0, 0, 0, 0, 0xee, 0xee]);
+    assert!(is_sound(&record));
+    let mut short = [0xee; 14];
+    assert_eq!(fresh(&mut short), 12);
+    assert_eq!(short, [0xee; 14]);
+}
+
+#[test]
+fn receive_enable_refused() {
+    let mut unsound = fresh_record();
+    unsound[1] = 4;
+    let examples: [(&[u8], &[u8], u8); 5] = [
+        (&fresh_record()[..14], &[0x41], 12),
+        (&unsound, &[0x41], 13),
+        (&fresh_record(), &[0x41, 0x41], 8),
+        (&fresh_record(), &[0x71], 9),
+        (&fresh_record(), &[0xc1], 10),
+    ];
+    for (before, data, answer) in examples {
+        let mut record = before.to_vec();
+        assert_eq!(receive_enable(&mut record, data), answer);
+        assert_eq!(record, before);
+    }
+}
+
+#[test]
+fn receive_enable_taken() {
+    let mut record = fresh_record();
+    assert_eq!(receive_enable(&mut record, &[0x41]), 11);
+    assert_eq!(record, [0x41, 0, 0, 0, 0, 0, 0, 0, 0, 0, 0, 0, 0, 0, 0]);
+    assert_eq!(receive_enable(&mut record, &LONG), 11);
+    assert_eq!(record, [0xc9, 3, 2, 3, 4, 5, 6, 7, 8, 9, 10, 11, 12, 13, 14]);
+    assert_eq!(receive_enable(&mut record, &[0x40]), 11);
+    assert_eq!(record, [0x40, 3, 2, 3, 4, 5, 6, 7, 8, 9, 10, 11, 12, 13, 14]);
+    assert_eq!(receive_enable(&mut record, &[0xc1]), 11);
+    assert_eq!(record, [0xc1, 3, 2, 3, 4, 5, 6, 7, 8, 9, 10, 11, 12, 13, 14]);
+}
+
+#[test]
+fn addresses_in_force() {
+    let mut record = fresh_record();
+    assert_eq!(mac_in_force(&record, &FLASH), AddressInForce::Flash(&FLASH[..6]));
+    assert_eq!(ipv4_in_force(&record, &FLASH), AddressInForce::Flash(&FLASH[6..]));
+
+    receive_enable(&mut record, &LONG);
+    assert_eq!(mac_in_force(&record, &FLASH), AddressInForce::Record(&[2, 3, 4, 5, 6, 7]));
+    assert_eq!(ipv4_in_force(&record, &FLASH), AddressInForce::Record(&[8, 9, 10, 11]));
+
+    receive_enable(&mut record, &[0x41]);
+    assert_eq!(mac_in_force(&record, &FLASH), AddressInForce::Flash(&FLASH[..6]));
+    assert_eq!(ipv4_in_force(&record, &FLASH), AddressInForce::Record(&[8, 9, 10, 11]));
+
+    assert_eq!(mac_in_force(&record, &FLASH[..9]), AddressInForce::Nowhere);
+    assert_eq!(ipv4_in_force(&record, &FLASH[..9]).part(), &[0; 0]);
+    assert_eq!(ipv4_in_force(&record[..14], &FLASH), AddressInForce::Nowhere);
+}
