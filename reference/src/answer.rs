@@ -1,11 +1,16 @@
 //! Answers cases.
 
+mod carried;
+mod transactions;
+
+use std::fmt;
 use std::io::{BufRead, Write};
 
 use reference::setlink::{self, Media};
 use reference::settings::{self, AddressInForce};
 use reference::status::{self, StatusData};
 
+use self::carried::{Carried, Disagreement};
 use crate::text::{Fields, Line, NotACase, LONGEST_LINE};
 
 const DIGEST_START: u64 = 1;
@@ -17,8 +22,33 @@ const SOURCE_NONE: u8 = 0;
 const SOURCE_RECORD: u8 = 1;
 const SOURCE_FLASH: u8 = 2;
 
-/// Answers every line of the input, up to the first that is no case.
+/// Why a line is not answered.
+enum Stopped {
+    NotACase(NotACase),
+    Disagreement(Disagreement),
+}
+
+impl From<NotACase> for Stopped {
+    fn from(reason: NotACase) -> Stopped {
+        Stopped::NotACase(reason)
+    }
+}
+
+impl fmt::Display for Stopped {
+    fn fmt(&self, formatter: &mut fmt::Formatter) -> fmt::Result {
+        match self {
+            Stopped::NotACase(reason) => write!(formatter, "not a case: {reason}"),
+            Stopped::Disagreement(what) => {
+                write!(formatter, "the translator and the history disagree: {what}")
+            }
+        }
+    }
+}
+
+/// Answers every line of the input, up to the first that is no case or on
+/// which the translator and the history disagree.
 pub fn answer_all(input: &mut dyn BufRead, output: &mut dyn Write) -> Result<(), String> {
+    let mut carried = Carried::default();
     let mut line = Vec::new();
     let mut number = 0;
     loop {
@@ -30,41 +60,51 @@ pub fn answer_all(input: &mut dyn BufRead, output: &mut dyn Write) -> Result<(),
             return Ok(());
         }
         number += 1;
-        let answer =
-            answer_line(&line).map_err(|reason| format!("line {number}: not a case: {reason}"))?;
+        let answer = answer_line(&mut carried, &line)
+            .map_err(|stopped| format!("line {number}: {stopped}"))?;
         writeln!(output, "{answer}").map_err(|error| format!("standard output: {error}"))?;
     }
 }
 
-fn answer_line(line: &[u8]) -> Result<String, NotACase> {
+fn answer_line(carried: &mut Carried, line: &[u8]) -> Result<String, Stopped> {
     let line = line.strip_suffix(b"\n").ok_or("no line feed at its end")?;
     if line.len() > LONGEST_LINE {
-        return Err("too long");
+        return Err("too long".into());
     }
     if !line.is_ascii() {
-        return Err("not ASCII");
+        return Err("not ASCII".into());
     }
     let line = std::str::from_utf8(line).map_err(|_| "not ASCII")?;
     if line.is_empty() || line.starts_with('#') {
         return Ok(line.to_string());
     }
-    answer_case(line)
+    answer_case(carried, line)
 }
 
-fn answer_case(case: &str) -> Result<String, NotACase> {
+fn answer_case(carried: &mut Carried, case: &str) -> Result<String, Stopped> {
     let (operation, fields) = Fields::of(case);
     let answer = match operation {
-        "link" => link(fields),
-        "links" => links(fields),
-        "write-status" => write_status(fields),
-        "read-status" => read_status(fields),
-        "fresh-settings" => fresh_settings(fields),
-        "sound-settings" => sound_settings(fields),
-        "enable" => enable(fields),
-        "mac" => mac(fields),
-        "ipv4" => ipv4(fields),
-        _ => Err("an unknown operation"),
-    }?;
+        "link" => link(fields)?,
+        "links" => links(fields)?,
+        "write-status" => write_status(fields)?,
+        "read-status" => read_status(fields)?,
+        "fresh-settings" => fresh_settings(fields)?,
+        "sound-settings" => sound_settings(fields)?,
+        "enable" => enable(fields)?,
+        "mac" => mac(fields)?,
+        "ipv4" => ipv4(fields)?,
+        "append" => transactions::append(fields)?,
+        "fill" => transactions::fill(fields)?,
+        "shown" => transactions::shown(fields)?,
+        "fresh-account" => transactions::fresh_account(fields)?,
+        "sound-account" => transactions::sound_account(fields)?,
+        "start" => transactions::start(carried, fields)?,
+        "send" => transactions::send(carried, fields)?,
+        "send-pattern" => transactions::send_pattern(carried, fields)?,
+        "show" => transactions::show(carried, fields)?,
+        "packet" => transactions::packet(carried, fields)?,
+        _ => return Err("an unknown operation".into()),
+    };
     Ok(answer.text())
 }
 
@@ -99,6 +139,10 @@ fn links(mut fields: Fields) -> Result<Line, NotACase> {
         }
     }
     Ok(Line::answer().u32(digest as u32))
+}
+
+fn digest(bytes: &[u8]) -> u32 {
+    digest_of(DIGEST_START, bytes) as u32
 }
 
 fn digest_of(before: u64, bytes: &[u8]) -> u64 {

@@ -1,7 +1,29 @@
 //! The answer numbers.
 
-/// The call did what it was asked for.
+/// The call did what it was asked for; of a fragment, that it was taken and
+/// its packet is open.
 pub const DONE: u8 = 0;
+
+/// Packet sent.
+pub const PACKET_SENT: u8 = 1;
+
+/// A fragment that is not First where no packet is open.
+pub const ABORTED: u8 = 2;
+
+/// A fragment of no bytes or above the fragment maximum.
+pub const FRAGMENT_LENGTH: u8 = 3;
+
+/// Packet discarded, its total too long.
+pub const PACKET_TOO_LONG: u8 = 4;
+
+/// Packet discarded, its total too short.
+pub const PACKET_TOO_SHORT: u8 = 5;
+
+/// Packet discarded, the link down at its Last.
+pub const LINK_DOWN: u8 = 6;
+
+/// The command is unknown.
+pub const UNKNOWN_COMMAND: u8 = 7;
 
 /// Receive Enable is neither of the short nor of the long form.
 pub const RECEIVE_ENABLE_LENGTH: u8 = 8;
@@ -18,8 +40,14 @@ pub const RECEIVE_ENABLE_TAKEN: u8 = 11;
 /// A lent buffer is too short.
 pub const TOO_SHORT: u8 = 12;
 
-/// A lent record is not sound.
+/// A lent record or account is not sound.
 pub const NOT_SOUND: u8 = 13;
+
+/// The account is full.
+pub const ACCOUNT_FULL: u8 = 14;
 
 /// A status field or a status block is not allowed.
 pub const STATUS_NOT_ALLOWED: u8 = 15;
+
+/// The fragment maximum is not allowed.
+pub const MAXIMUM_NOT_ALLOWED: u8 = 16;

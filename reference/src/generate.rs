@@ -1,8 +1,12 @@
 //! Generates cases, the same ones in every run.
 
+mod account;
+mod lists;
+mod packet;
 mod setlink;
 mod settings;
 mod status;
+mod transactions;
 
 use crate::text::Line;
 
@@ -12,6 +16,10 @@ pub fn cases() -> String {
     setlink::generate(&mut cases);
     status::generate(&mut cases);
     settings::generate(&mut cases);
+    packet::generate(&mut cases);
+    account::generate(&mut cases);
+    transactions::generate(&mut cases);
+    lists::generate(&mut cases);
     cases.text
 }
 

@@ -18,6 +18,16 @@
 //! | `enable SETTINGS DATA` | `ANSWER/1 SETTINGS` |
 //! | `mac SETTINGS FLASH` | `SOURCE/1 PART` |
 //! | `ipv4 SETTINGS FLASH` | `SOURCE/1 PART` |
+//! | `append SIZE/2 SEED/1 AT/8 FRAGMENT` | `DIGEST/4` |
+//! | `fill SIZE/2 SEED/1 LENGTH/8` | `DIGEST/4` |
+//! | `shown SIZE/2 SEED/1 LENGTH/8` | `LENGTH/2 DIGEST/4` |
+//! | `fresh-account MAXIMUM/4` | `ANSWER/1 ACCOUNT` |
+//! | `sound-account ACCOUNT` | `SOUND/1` |
+//! | `start ACCOUNT STORE_SIZE/2 STORE_SEED/1 SETTINGS` | `SOUND/1` |
+//! | `send COMMAND/1 LINK/1 DATA` | `ANSWER/1 SENT/2 DIGEST/4 DIGEST/4 DIGEST/4` |
+//! | `send-pattern COMMAND/1 LINK/1 SIZE/2 SEED/1` | as for `send` |
+//! | `show` | `ACCOUNT SETTINGS` |
+//! | `packet LENGTH/8` | `LENGTH/2 DIGEST/4` |
 //!
 //! The medium is 00 for copper and 01 for fibre. `links` judges COUNT words
 //! from FROM on, each with the same word in force: host driver absent on
@@ -26,6 +36,26 @@
 //! fields `LENGTH/2 VLAN/2 DECISION_MATCH/1 DECISION_INDEX/1 VLAN_MATCH/1
 //! VLAN_INDEX/1`. SOURCE is 00 for no address, 01 for the record and 02 for the
 //! Flash block.
+//!
+//! A pattern of a size and a seed has the byte (seed + 7 * i) mod 256 at place
+//! i. `append`, `fill` and `shown` work on a store of that pattern; the first
+//! two answer with the digest of the whole store afterwards, `shown` with the
+//! length and the digest of the part. ACCOUNT is 264 bytes: 33 numbers of eight
+//! bytes, which are the maximum, the nine rows of packets, fragments and bytes
+//! (sent, superseded, flushed, broken, over, short, linkdown, aborted,
+//! badlength), open fragments, open bytes, taken, refused and total.
+//!
+//! `start` gives the account, a store of a pattern of at most 2048 bytes and at
+//! most 64 bytes of settings that are carried from there on; before it they are
+//! 33 zeros and no bytes. `send` does one transaction on them, `send-pattern`
+//! the same with data of a pattern of at most 2048 bytes; the three digests are
+//! those of the account, the store and the settings afterwards. `show` shows
+//! the account and the settings that are carried, `packet` what is shown of the
+//! store. Where the account that was given was fresh, every transaction is
+//! compared with the history, and the program stops if they disagree.
+//!
+//! A digest starts from 1 and becomes (257 * digest + byte) mod 4294967291 with
+//! each byte.
 
 #![forbid(unsafe_code)]
 

@@ -55,6 +55,11 @@ impl Line {
         self.bytes(&number.to_be_bytes())
     }
 
+    /// Adds a number of eight bytes.
+    pub fn u64(self, number: u64) -> Line {
+        self.bytes(&number.to_be_bytes())
+    }
+
     /// Adds a bool.
     pub fn bool(self, value: bool) -> Line {
         self.u8(u8::from(value))
@@ -111,6 +116,11 @@ impl<'a> Fields<'a> {
     /// Takes a number of four bytes.
     pub fn u32(&mut self) -> Result<u32, NotACase> {
         Ok(u32::from_be_bytes(self.array()?))
+    }
+
+    /// Takes a number of eight bytes.
+    pub fn u64(&mut self) -> Result<u64, NotACase> {
+        Ok(u64::from_be_bytes(self.array()?))
     }
 
     /// Takes a bool.

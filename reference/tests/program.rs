@@ -4,7 +4,8 @@ use std::io::Write;
 use std::process::{Command, Output, Stdio};
 use std::thread;
 
-const MOST_BYTES: usize = 500_000;
+/// The most bytes of cases and answers together.
+const MOST_BYTES: usize = 3_500_000;
 const LONGEST_LINE: usize = 8000;
 
 fn run(arguments: &[&str], input: &[u8]) -> Output {
@@ -69,6 +70,100 @@ fn answers_of_every_operation() {
     }
 }
 
+/// The 33 numbers of an account as a field, those not given zero.
+fn account(numbers: &[(usize, u64)]) -> String {
+    let mut all = [0; 33];
+    for (place, number) in numbers {
+        all[*place] = *number;
+    }
+    all.iter().map(|number| format!("{number:016x}")).collect()
+}
+
+/// The digest of bytes, as a field.
+fn digest(bytes: &[u8]) -> String {
+    let add = |digest: u64, byte: &u8| (digest * 257 + u64::from(*byte)) % 4_294_967_291;
+    format!("{:08x}", bytes.iter().fold(1, add))
+}
+
+/// The digest of the bytes of a field.
+fn digest_of_field(field: &str) -> String {
+    let byte = |pair: &[u8]| {
+        let text = std::str::from_utf8(pair).expect("digits");
+        u8::from_str_radix(text, 16).expect("digits")
+    };
+    digest(&field.as_bytes().chunks(2).map(byte).collect::<Vec<u8>>())
+}
+
+fn pattern(size: usize, seed: usize) -> Vec<u8> {
+    (0..size).map(|place| ((seed + 7 * place) % 256) as u8).collect()
+}
+
+#[test]
+fn answers_about_a_store() {
+    let mut written = pattern(1536, 0xf0);
+    written[700..703].copy_from_slice(&[1, 2, 3]);
+    let mut filled = pattern(64, 5);
+    filled[17..].fill(0);
+    let part = digest(&pattern(1535, 9));
+    for (case, answer) in [
+        ("append 0600 f0 00000000000002bc 010203", digest(&written)),
+        ("append 0600 f0 00000000000005fe 010203", digest(&pattern(1536, 0xf0))),
+        ("append 0000 f0 0000000000000000 -", "00000001".to_string()),
+        ("fill 0040 05 0000000000000011", digest(&filled)),
+        ("fill 003f 05 0000000000000011", digest(&pattern(63, 5))),
+        ("shown 0600 09 00000000000005ff", format!("05ff {part}")),
+        ("shown 0600 09 0000000000000601", "0000 00000001".to_string()),
+    ] {
+        assert_eq!(answers(&format!("{case}\n")), format!("{answer}\n"), "{case}");
+    }
+}
+
+#[test]
+fn answers_about_an_account() {
+    let for_32 = account(&[(0, 32)]);
+    let for_240 = account(&[(0, 240)]);
+    assert_eq!(answers("fresh-account 00000020\n"), format!("00 {for_32}\n"));
+    assert_eq!(answers("fresh-account 00000000\n"), format!("10 {for_240}\n"));
+    assert_eq!(answers(&format!("sound-account {for_32}\n")), "01\n");
+    let unsound = account(&[(0, 32), (32, 1)]);
+    assert_eq!(answers(&format!("sound-account {unsound}\n")), "00\n");
+}
+
+#[test]
+fn answers_about_what_is_carried() {
+    let fresh = "400000000000000000000000000000";
+    let before = account(&[(0, 32)]);
+    let open = account(&[(0, 32), (28, 1), (29, 3), (32, 1)]);
+    let sent = account(&[(0, 32), (1, 1), (2, 2), (3, 18), (32, 2)]);
+    let taken = account(&[(0, 32), (1, 1), (2, 2), (3, 18), (30, 1), (32, 3)]);
+    let mut store = pattern(1600, 7);
+    store[..3].copy_from_slice(&[1, 2, 3]);
+    let after_open = digest(&store);
+    store[3..18].copy_from_slice(&pattern(15, 0x30));
+    store[18..64].fill(0);
+    let after_sent = digest(&store);
+    let settings = "410000000000000000000000000000";
+    let cases = format!(
+        "show\npacket 0000000000000001\nsend c4 01 00\n\
+         start {before} 0640 07 {fresh}\nsend 84 00 010203\nsend-pattern 44 01 000f 30\n\
+         packet 0000000000000040\nsend ca 00 41\nshow\n"
+    );
+    let zeros = account(&[]);
+    let expected = [
+        format!("{zeros} -"),
+        "0000 00000001".to_string(),
+        format!("0c 0000 {} 00000001 00000001", digest_of_field(&zeros)),
+        "01".to_string(),
+        format!("00 0000 {} {after_open} {}", digest_of_field(&open), digest_of_field(fresh)),
+        format!("01 0040 {} {after_sent} {}", digest_of_field(&sent), digest_of_field(fresh)),
+        format!("0040 {}", digest(&store[..64])),
+        format!("0b 0000 {} {after_sent} {}", digest_of_field(&taken), digest_of_field(settings)),
+        format!("{taken} {settings}"),
+    ];
+    let given = answers(&cases);
+    assert_eq!(given.lines().collect::<Vec<_>>(), expected);
+}
+
 #[test]
 fn names_and_empty_lines_are_copied() {
     assert_eq!(answers("# a  name\n\n#\nsound-settings -\n"), "# a  name\n\n#\n00\n");
@@ -98,6 +193,11 @@ fn links_is_the_digest_of_the_single_answers() {
 fn lines_that_are_no_case() {
     let too_long = format!("read-status {}", "00".repeat(4000));
     let long_name = format!("#{}", "x".repeat(LONGEST_LINE));
+    let zeros = account(&[]);
+    let short_account = format!("sound-account {}", &zeros[2..]);
+    let long_account = format!("sound-account {zeros}00");
+    let large_store = format!("start {zeros} 0801 00 -");
+    let long_settings = format!("start {zeros} 0800 00 {}", "00".repeat(65));
     let lines = [
         "unknown 00",
         " sound-settings -",
@@ -121,6 +221,18 @@ fn lines_that_are_no_case() {
         "write-status 0040 0000 01 07 00 0000",
         "mac -",
         "Mac - -",
+        "append 0040 00 00000000 01",
+        "append 0040 00 0000000000000000",
+        "fill 0040 0000000000000000",
+        "sound-account -",
+        &short_account,
+        &long_account,
+        &large_store,
+        &long_settings,
+        "send 84 02 01",
+        "send-pattern 84 01 0801 00",
+        "show -",
+        "packet 40",
         &too_long,
         &long_name,
     ];
@@ -165,9 +277,8 @@ fn anything_else_is_answered_with_usage() {
 fn generated_cases_are_the_same_each_time_and_all_are_answered() {
     let cases = generated();
     assert_eq!(cases, generated());
-    assert!(cases.len() < MOST_BYTES);
     let answers = answers(&cases);
-    assert!(answers.len() < MOST_BYTES);
+    assert!(cases.len() + answers.len() < MOST_BYTES);
     assert_eq!(cases.lines().count(), answers.lines().count());
     for (case, answer) in cases.lines().zip(answers.lines()) {
         assert!(case.len() <= LONGEST_LINE);
@@ -186,7 +297,7 @@ fn generated_cases_reach_every_answer() {
             case.split(' ').next() == Some(operation) && given.starts_with(answer)
         })
     };
-    let expected: [(&str, &[&str]); 8] = [
+    let expected: [(&str, &[&str]); 11] = [
         ("link", &["0000 0000 ", "0001 0002 ", "0001 0901 ", "0001 0902 ", "0001 0903 "]),
         ("link", &["0001 0905 "]),
         ("write-status", &["00 ", "0f 0000000000000000"]),
@@ -195,11 +306,62 @@ fn generated_cases_reach_every_answer() {
         ("enable", &["08 ", "09 ", "0a ", "0b ", "0c ", "0d "]),
         ("mac", &["00 -", "01 ", "02 "]),
         ("ipv4", &["00 -", "01 ", "02 "]),
+        ("fresh-account", &["00 ", "10 "]),
+        ("send-pattern", &["00 ", "01 ", "02 ", "03 ", "04 ", "05 ", "06 ", "07 "]),
+        ("send-pattern", &["08 ", "09 ", "0a ", "0b ", "0c ", "0d ", "0e "]),
     ];
     for (operation, kinds) in expected {
         for kind in kinds {
             assert!(reached(operation, kind), "{operation} never answered {kind}");
         }
     }
-    assert!(reached("sound-settings", "00") && reached("sound-settings", "01"));
+    for operation in ["sound-settings", "sound-account", "start"] {
+        assert!(reached(operation, "00") && reached(operation, "01"), "{operation}");
+    }
+}
+
+#[test]
+fn named_lists_are_answered_as_their_names_say() {
+    let cases = generated();
+    let answers = answers(&cases);
+    let mut name = "";
+    let mut expected: Vec<u8> = Vec::new();
+    let mut named = 0;
+    for (case, answer) in cases.lines().zip(answers.lines()) {
+        if case.is_empty() || case.starts_with('#') {
+            assert!(expected.is_empty(), "{name}");
+            name = case;
+            if let Some((_, numbers)) = case.split_once(": answers ") {
+                let number = |text: &str| text.parse().expect("a number");
+                expected = numbers.split(", ").map(number).collect();
+                expected.reverse();
+                named += 1;
+            }
+        } else if case.starts_with("send") && name.contains(": answers ") {
+            let given = u8::from_str_radix(&answer[..2], 16).expect("a number");
+            assert_eq!(Some(given), expected.pop(), "{name}");
+        }
+    }
+    assert!(named > 400, "{named}");
+}
+
+#[test]
+fn named_accounts_are_as_sound_as_their_names_say() {
+    let cases = generated();
+    let answers = answers(&cases);
+    let mut lines = cases.lines().zip(answers.lines());
+    let mut named = 0;
+    while let Some((name, _)) = lines.next() {
+        let expected = if name.ends_with(": not sound") {
+            "00"
+        } else if name.ends_with(": sound") {
+            "01"
+        } else {
+            continue;
+        };
+        let (_, answer) = lines.next().expect("a case after its name");
+        assert_eq!(answer, expected, "{name}");
+        named += 1;
+    }
+    assert!(named > 200, "{named}");
 }

@@ -1,8 +1,9 @@
 //! The worked examples, and one example of each answer.
 
 use reference::answer_numbers::{
-    CONTROL_NOT_ALLOWED, DONE, NOT_SOUND, NO_MAC_KEPT, RECEIVE_ENABLE_LENGTH, RECEIVE_ENABLE_TAKEN,
-    STATUS_NOT_ALLOWED, TOO_SHORT,
+    ABORTED, ACCOUNT_FULL, CONTROL_NOT_ALLOWED, DONE, FRAGMENT_LENGTH, LINK_DOWN,
+    MAXIMUM_NOT_ALLOWED, NOT_SOUND, NO_MAC_KEPT, PACKET_SENT, PACKET_TOO_LONG, PACKET_TOO_SHORT,
+    RECEIVE_ENABLE_LENGTH, RECEIVE_ENABLE_TAKEN, STATUS_NOT_ALLOWED, TOO_SHORT, UNKNOWN_COMMAND,
 };
 use reference::setlink::{decide, Decision, Media, FRESH_WORD};
 use reference::settings::{
@@ -22,13 +23,22 @@ fn fresh_record() -> [u8; 15] {
 #[test]
 fn answer_numbers() {
     assert_eq!(DONE, 0);
+    assert_eq!(PACKET_SENT, 1);
+    assert_eq!(ABORTED, 2);
+    assert_eq!(FRAGMENT_LENGTH, 3);
+    assert_eq!(PACKET_TOO_LONG, 4);
+    assert_eq!(PACKET_TOO_SHORT, 5);
+    assert_eq!(LINK_DOWN, 6);
+    assert_eq!(UNKNOWN_COMMAND, 7);
     assert_eq!(RECEIVE_ENABLE_LENGTH, 8);
     assert_eq!(CONTROL_NOT_ALLOWED, 9);
     assert_eq!(NO_MAC_KEPT, 10);
     assert_eq!(RECEIVE_ENABLE_TAKEN, 11);
     assert_eq!(TOO_SHORT, 12);
     assert_eq!(NOT_SOUND, 13);
+    assert_eq!(ACCOUNT_FULL, 14);
     assert_eq!(STATUS_NOT_ALLOWED, 15);
+    assert_eq!(MAXIMUM_NOT_ALLOWED, 16);
 }
 
 #[test]

@@ -24,6 +24,17 @@ pub(crate) fn put(buffer: &mut Buffer, end: usize, byte: u8) -> usize {
     NOT_A_CASE
 }
 
+// Puts the bytes there, as put does one.
+pub(crate) fn put_all(buffer: &mut Buffer, end: usize, bytes: &[u8]) -> usize {
+    let mut end = end;
+    let mut i = 0;
+    while i < bytes.len() {
+        end = put(buffer, end, bytes[i]);
+        i += 1;
+    }
+    end
+}
+
 // Puts a copy of the bytes at the start of the buffer, or none of them where there is no room, and
 // answers how many it put.
 pub(crate) fn fill(buffer: &mut Buffer, bytes: &[u8]) -> usize

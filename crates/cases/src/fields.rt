@@ -2,11 +2,15 @@
 // 0 is the operation's name, as it stands in the line.
 ghost use Prim.Native.Nat.{_≤_};
 ghost use lib.ListN.{length};
+use crate::account::SIZE;
 use crate::buffer::Buffer;
 use crate::buffer::NOT_A_CASE;
 use crate::buffer::fill;
 use crate::buffer::part;
 use crate::buffer::put;
+use crate::number::pair;
+use crate::number::quad;
+use crate::number::u64_in;
 
 // The most fields of a case.
 pub(crate) const MAX: usize = 16;
@@ -106,7 +110,8 @@ pub(crate) fn first(ends: &[usize; MAX], count: usize) -> &[usize] {
 }
 
 // Whether the fields are of the form, which is an operation's name, a space and a character for
-// each other field: `*` for any bytes, `?` for a flag, and else the field's size.
+// each other field: `*` for any bytes, `?` for a flag, `A` for an account, and else the field's
+// size.
 pub(crate) fn are(bytes: &Buffer, ends: &[usize], form: &[u8]) -> bool {
     let name_end = word_end(form, 0);
     if !check::same(at(bytes, ends, 0), &form[0..name_end]) {
@@ -137,6 +142,8 @@ fn is_of_kind(field: &[u8], kind: u8) -> bool {
         b'1' => field.len() == 1,
         b'2' => field.len() == 2,
         b'4' => field.len() == 4,
+        b'8' => field.len() == 8,
+        b'A' => field.len() == SIZE,
         _ => false,
     }
 }
@@ -163,7 +170,7 @@ pub(crate) fn flag_at(bytes: &Buffer, ends: &[usize], i: usize) -> bool {
     u8_at(bytes, ends, i) == 1
 }
 
-// The number in field i, or 0 where the field has another size, as in u16_at and u32_at.
+// The number in field i, or 0 where the field has another size, as in u16_at, u32_at and u64_at.
 pub(crate) fn u8_at(bytes: &Buffer, ends: &[usize], i: usize) -> u8 {
     let field = at(bytes, ends, i);
     if field.len() != 1 {
@@ -185,9 +192,13 @@ pub(crate) fn u32_at(bytes: &Buffer, ends: &[usize], i: usize) -> u32 {
     if field.len() != 4 {
         return 0;
     }
-    pair(field[0], field[1]) as u32 * 65536 + pair(field[2], field[3]) as u32
+    quad(field[0], field[1], field[2], field[3])
 }
 
-fn pair(high: u8, low: u8) -> u16 {
-    high as u16 * 256 + low as u16
+pub(crate) fn u64_at(bytes: &Buffer, ends: &[usize], i: usize) -> u64 {
+    let field = at(bytes, ends, i);
+    if field.len() != 8 {
+        return 0;
+    }
+    u64_in(field, 0)
 }

@@ -4,13 +4,13 @@ use crate::answer::put_u16;
 use crate::answer::put_u32;
 use crate::buffer::Buffer;
 use crate::buffer::NOT_A_CASE;
+use crate::digest::NONE;
+use crate::digest::add;
 use crate::fields;
 use setlink::Decision;
 use setlink::Media;
 
 const WORDS: u64 = 4294967296;
-
-const MODULUS: u64 = 4294967291;
 
 // Puts the fields that answer the case at the start of text, and answers where they end, or
 // NOT_A_CASE where the case is none of these.
@@ -58,7 +58,7 @@ fn digest(in_force: u32, from: u64, to: u64) -> u64
     requires { ⌜ to ≤ 4294967296 ⌝ }
     ensures { λ r. ⌜ r < 4294967291 ⌝ }
 {
-    let mut h = 1;
+    let mut h = NONE;
     let mut word = from;
     while word < to {
         h = add_word(h, in_force, word as u32);
@@ -91,6 +91,6 @@ fn add_u16(h: u64, number: u16) -> u64
     requires { ⌜ h < 4294967291 ⌝ }
     ensures { λ r. ⌜ r < 4294967291 ⌝ }
 {
-    let h = (h * 257 + number as u64 / 256) % MODULUS;
-    (h * 257 + number as u64 % 256) % MODULUS
+    let h = add(h, (number / 256) as u8);
+    add(h, (number % 256) as u8)
 }

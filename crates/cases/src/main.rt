@@ -25,23 +25,61 @@
 //         SOURCE/1 PART
 //     ipv4 SETTINGS FLASH
 //         SOURCE/1 PART
+//     append SIZE/2 SEED/1 AT/8 FRAGMENT
+//         DIGEST/4
+//     fill SIZE/2 SEED/1 LENGTH/8
+//         DIGEST/4
+//     shown SIZE/2 SEED/1 LENGTH/8
+//         LENGTH/2 DIGEST/4
+//     fresh-account MAXIMUM/4
+//         ANSWER/1 ACCOUNT/264
+//     sound-account ACCOUNT/264
+//         SOUND/flag
+//     start ACCOUNT/264 STORE_SIZE/2 STORE_SEED/1 SETTINGS
+//         SOUND/flag
+//     send COMMAND/1 LINK/flag DATA
+//         ANSWER/1 SENT/2 ACCOUNT_DIGEST/4 STORE_DIGEST/4 SETTINGS_DIGEST/4
+//     send-pattern COMMAND/1 LINK/flag SIZE/2 SEED/1
+//         ANSWER/1 SENT/2 ACCOUNT_DIGEST/4 STORE_DIGEST/4 SETTINGS_DIGEST/4
+//     show
+//         ACCOUNT/264 SETTINGS
+//     packet LENGTH/8
+//         LENGTH/2 DIGEST/4
 //
 // The media is 00 for copper and 01 for fibre, and the source 00 for nowhere, 01 for the settings
 // and 02 for Flash.
 //
-// The digest is of the bytes of the answers to `link` for COUNT words from FROM on, of which the
-// last is at most ffffffff, and for each word in the order host absent and copper, absent and
-// fibre, present and copper, present and fibre. It starts at 1, and a byte b turns it from h to
-// (h * 257 + b) mod 4294967291.
+// A digest starts at 1, and a byte b turns it from h to (h * 257 + b) mod 4294967291. That of
+// `links` is of the bytes of the answers to `link` for COUNT words from FROM on, of which the last
+// is at most ffffffff, and for each word in the order host absent and copper, absent and fibre,
+// present and copper, present and fibre.
+//
+// A pattern of a size and a seed has the byte (seed + 7 * i) mod 256 at place i. The store of
+// `append`, `fill` and `shown` is one. The first two answer the digest of the store as they leave
+// it, and `shown` the length and the digest of the part that is shown.
+//
+// An account is 33 numbers of eight bytes: the maximum, the 27 of the grid, open fragments, open
+// bytes, taken, refused and total. `start` has the account, a store, which is a pattern of at most
+// 2048 bytes, and at most 64 bytes of settings carried from there on. Before it they are 33 zeros
+// and no bytes. `send` and `send-pattern`, whose data is a pattern of at most 2048 bytes, do one
+// transaction on what is carried, and the digests are those after it. `show` and `packet` show what
+// is carried.
 //
 // Any other line is answered by the line `not a case`, and so is what stands behind the last line
 // feed.
+mod account;
 mod answer;
 mod buffer;
+mod carried;
+mod digest;
 mod fields;
 mod link;
+mod number;
+mod pattern;
 mod settings_record;
 mod status_block;
+mod store;
+mod transaction;
 
 use buffer::Buffer;
 use buffer::NOT_A_CASE;
@@ -61,10 +99,11 @@ enum Next {
 fn main() {
     let mut chunk = io::large_buffer();
     let mut line = buffer::new();
+    let mut carried = buffer::new();
     let mut end: usize = 0;
     let mut turns = u64::MAX;
     while turns > 0 {
-        let Next::After(next) = read_some(&mut chunk, &mut line, end) else {
+        let Next::After(next) = read_some(&mut chunk, &mut line, &mut carried, end) else {
             return;
         };
         end = next;
@@ -73,8 +112,8 @@ fn main() {
 }
 
 // Reads once, and answers the lines that this completes. The first `end` characters of `line` are
-// those that came before.
-fn read_some(chunk: &mut [u8], line: &mut Buffer, end: usize) -> Next {
+// those that came before, and `carried` is what cases leave to later ones.
+fn read_some(chunk: &mut [u8], line: &mut Buffer, carried: &mut Buffer, end: usize) -> Next {
     let got = libc::read(STDIN_FILENO, chunk);
     if got < 0 {
         os::fail(b"standard input");
@@ -87,14 +126,14 @@ fn read_some(chunk: &mut [u8], line: &mut Buffer, end: usize) -> Next {
         return Next::Nothing;
     }
     let n = io::count(got, chunk);
-    take_all(&chunk[..n], line, end)
+    take_all(&chunk[..n], line, carried, end)
 }
 
-fn take_all(characters: &[u8], line: &mut Buffer, end: usize) -> Next {
+fn take_all(characters: &[u8], line: &mut Buffer, carried: &mut Buffer, end: usize) -> Next {
     let mut end = end;
     let mut i = 0;
     while i < characters.len() {
-        let Next::After(next) = take(characters[i], line, end) else {
+        let Next::After(next) = take(characters[i], line, carried, end) else {
             return Next::Nothing;
         };
         end = next;
@@ -103,18 +142,18 @@ fn take_all(characters: &[u8], line: &mut Buffer, end: usize) -> Next {
     Next::After(end)
 }
 
-fn take(character: u8, line: &mut Buffer, end: usize) -> Next {
+fn take(character: u8, line: &mut Buffer, carried: &mut Buffer, end: usize) -> Next {
     if character != b'\n' {
         return Next::After(buffer::put(line, end, character));
     }
-    if print_answer(line, end) {
+    if print_answer(line, end, carried) {
         return Next::After(0);
     }
     Next::Nothing
 }
 
 // Prints what answers the line of the first `end` characters. It answers as print does.
-fn print_answer(line: &Buffer, end: usize) -> bool {
+fn print_answer(line: &Buffer, end: usize, carried: &mut Buffer) -> bool {
     if end > MAX_LINE {
         return print(b"not a case\n");
     }
@@ -123,7 +162,7 @@ fn print_answer(line: &Buffer, end: usize) -> bool {
         return print(line) && print(b"\n");
     }
     let mut text = buffer::new();
-    let end = put_answer(line, &mut text);
+    let end = put_answer(line, carried, &mut text);
     if end == NOT_A_CASE {
         return print(b"not a case\n");
     }
@@ -138,20 +177,20 @@ fn is_copied(line: &[u8]) -> bool {
 }
 
 // Puts the line that answers a case at the start of text, and answers where it ends, or NOT_A_CASE.
-fn put_answer(line: &[u8], text: &mut Buffer) -> usize {
+fn put_answer(line: &[u8], carried: &mut Buffer, text: &mut Buffer) -> usize {
     let mut bytes = buffer::new();
     let mut ends = [0usize; fields::MAX];
     let count = fields::decode(line, &mut bytes, &mut ends);
     if count == NOT_A_CASE {
         return NOT_A_CASE;
     }
-    let end = put_fields(&bytes, fields::first(&ends, count), text);
+    let end = put_fields(&bytes, fields::first(&ends, count), carried, text);
     answer::end_line(text, end)
 }
 
 // Puts the fields of the answer there. Each module knows its own operations, so that a case of
 // another's is NOT_A_CASE to it.
-fn put_fields(bytes: &Buffer, ends: &[usize], text: &mut Buffer) -> usize {
+fn put_fields(bytes: &Buffer, ends: &[usize], carried: &mut Buffer, text: &mut Buffer) -> usize {
     let end = link::answer(bytes, ends, text);
     if end != NOT_A_CASE {
         return end;
@@ -160,7 +199,19 @@ fn put_fields(bytes: &Buffer, ends: &[usize], text: &mut Buffer) -> usize {
     if end != NOT_A_CASE {
         return end;
     }
-    settings_record::answer(bytes, ends, text)
+    let end = settings_record::answer(bytes, ends, text);
+    if end != NOT_A_CASE {
+        return end;
+    }
+    let end = store::answer(bytes, ends, text);
+    if end != NOT_A_CASE {
+        return end;
+    }
+    let end = account::answer(bytes, ends, text);
+    if end != NOT_A_CASE {
+        return end;
+    }
+    transaction::answer(bytes, ends, carried, text)
 }
 
 // Writes the text to standard output, or says on standard error why it could not, and answers

@@ -6,7 +6,7 @@ use mathlib.Core.Bool.{Bool, true, false}
 use mathlib.Core.Path.{_≡_, refl, sym}
 use lib.Dec.{eqb}
 use borrow.Author.Needs.{needs}
-use borrow.Author.Tests.{lt-ltb, le-ltb, le-leb, lt-leb, eq-eqb, ne-eqb, not-true, not-false}
+use borrow.Author.Tests.{lt-ltb, le-ltb, le-leb, lt-leb, eq-eqb, ne-eqb, eqb-true, eqb-false, not-true, not-false}
 use Rattle.prelude.specs.Choice.{if_then_else_}
 
 pub if-true : {A : Type 0} (t : Bool) (a b : A) → t ≡ true → (if t then a else b) ≡ a
@@ -49,5 +49,13 @@ if-second false false h = h
 -- n is k, and k is not m
 pub eqb-other : (n m k : ℕ) → n ≡ k → eqb k m ≡ false → eqb n m ≡ false
 eqb-other n m k h e = rw h e
+
+-- two tests of equality that hold together
+pub eqb-iff : (a b c d : ℕ) → (a ≡ b → c ≡ d) → (c ≡ d → a ≡ b) → eqb a b ≡ eqb c d
+eqb-iff a b c d to from = by-test (eqb a b) refl
+  where
+    by-test : (t : Bool) → eqb a b ≡ t → t ≡ eqb c d
+    by-test true e = sym (eq-eqb c d (to (eqb-true a b e)))
+    by-test false e = sym (ne-eqb c d (λ q. eqb-false a b e (from q)))
 
 pub ruleset tests = (needs, if-true, if-false, lt-ltb, le-ltb, le-leb, lt-leb, eq-eqb, ne-eqb, eqb-other, not-true, not-false)

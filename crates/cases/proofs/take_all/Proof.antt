@@ -6,10 +6,10 @@ use Rattle.cases.proofs.take_all.Statement.{statement}
 use Rattle.cases.proofs.take_all.Tie as tie
 
 abbrev Inv-loop : tie.InvT-loop
-Inv-loop characters line₀ end end₀ i₀ line end' i = Unit {0}
+Inv-loop characters line₀ carried₀ end end₀ i₀ line carried end' i = Unit {0}
 
 abbrev μ-loop : tie.MeasureT-loop
-μ-loop characters line₀ end end₀ i₀ line end' i = length characters - i
+μ-loop characters line₀ carried₀ end end₀ i₀ line carried end' i = length characters - i
 
 pub take-all-spec : {M : Type 1} → statement M
 take-all-spec =

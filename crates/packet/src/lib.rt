@@ -1,0 +1,74 @@
+// The assembly store that the caller lends: a fragment is appended, a packet is filled up and shown.
+// Whatever the store's length, bytes past MAX_PACKET never change.
+ghost use mathlib.Core.Path.{_≡_};
+ghost use Rattle.prelude.specs.Parts.{sliceOf};
+ghost use Rattle.packet.specs.Store.{appended, filled};
+ghost use Rattle.packet.specs.Store.{sentLength as Store·sentLength, shown as Store·shown};
+
+// The most bytes of a packet.
+pub const MAX_PACKET: u64 = 1536;
+
+// A shorter packet is filled up to this before it is sent.
+pub const MIN_SENT: u64 = 64;
+
+const ZEROS: [u8; 64] = [0; 64];
+
+// Writes the fragment behind the first `at` bytes. Changes nothing where that would end past
+// MAX_PACKET or past the store.
+pub fn append(store: &mut [u8], at: u64, fragment: &[u8])
+    ensures { λ _. ⌜ now (store .exit) ≡ appended (now (store .entry)) at (now (fragment .entry)) ⌝ }
+{
+    if MAX_PACKET < at {
+        return;
+    }
+    let end = at + fragment.len() as u64;
+    if MAX_PACKET < end {
+        return;
+    }
+    if (store.len() as u64) < end {
+        return;
+    }
+    let start = at as usize;
+    bytes::copy(fragment, &mut store[start..]);
+}
+
+// Fills a packet of `total` bytes up with zeros to MIN_SENT. Changes nothing where it has as many
+// already or the store is shorter.
+pub fn fill(store: &mut [u8], total: u64)
+    ensures { λ _. ⌜ now (store .exit) ≡ filled (now (store .entry)) total ⌝ }
+{
+    if MIN_SENT <= total {
+        return;
+    }
+    if (store.len() as u64) < MIN_SENT {
+        return;
+    }
+    let start = total as usize;
+    let zeros = ZEROS;
+    bytes::copy(&zeros[start..], &mut store[start..]);
+}
+
+// How many bytes are sent of a packet of `total` bytes.
+pub fn sent_length(total: u64) -> u64
+    ensures { λ r. ⌜ r ≡ Store·sentLength total ⌝ }
+{
+    if total < MIN_SENT {
+        return MIN_SENT;
+    }
+    total
+}
+
+// The first `length` bytes of the store, or an empty part where it has fewer or they are more than
+// MAX_PACKET.
+pub fn shown(store: &[u8], length: u64) -> &[u8]
+    ensures { λ r. ⌜ sliceOf r ≡ Store·shown (store .entry) length ⌝ }
+{
+    if (store.len() as u64) < length {
+        return &store[0..0];
+    }
+    if MAX_PACKET < length {
+        return &store[0..0];
+    }
+    let end = length as usize;
+    &store[0..end]
+}

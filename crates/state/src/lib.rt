@@ -1,0 +1,191 @@
+// The account: what became of every transaction, in a grid of nine fates by packets, fragments and
+// bytes, beside the packet that is open.
+ghost use mathlib.Core.Path.{_≡_};
+ghost use Rattle.state.specs.Account.{freshAccount, made};
+ghost use Rattle.state.specs.Sound.{countsSound, rowSound, rowsSound, singlesSound, sumHolds, sound};
+
+// Any numbers may be handed in; is_sound tells those that an account can hold.
+pub struct Account {
+    // The most data bytes of a fragment, 1 to MAX_MAXIMUM.
+    pub maximum: u64,
+    // Packets, fragments and bytes of each fate: sent, superseded, flushed, broken, over, short,
+    // linkdown, aborted, badlength.
+    pub grid: [u64; 27],
+    // The packet that is open, if it has a fragment.
+    pub open_fragments: u64,
+    pub open_bytes: u64,
+    // Commands.
+    pub taken: u64,
+    pub refused: u64,
+    // All transactions counted.
+    pub total: u64,
+}
+
+// A fresh account, and the answer: 0, or 16 with the account for MAX_MAXIMUM.
+pub struct Made {
+    pub answer: u32,
+    pub account: Account,
+}
+
+// An account with this total is full.
+pub const LIMIT: u64 = 4294967295;
+
+pub const MAX_MAXIMUM: u64 = 240;
+
+const DONE: u32 = 0;
+
+const BAD_MAXIMUM: u32 = 16;
+
+const ROWS: usize = 9;
+
+const COLUMNS: usize = 3;
+
+const ABORTED: usize = 7;
+
+const BADLENGTH: usize = 8;
+
+// A fresh account for fragments of at most `maximum` data bytes.
+pub fn fresh(maximum: u32) -> Made
+    ensures { λ r. ⌜ r ≡ made maximum ⌝ }
+{
+    if maximum < 1 {
+        return Made {
+            answer: BAD_MAXIMUM,
+            account: empty(MAX_MAXIMUM),
+        };
+    }
+    let maximum = maximum as u64;
+    if MAX_MAXIMUM < maximum {
+        return Made {
+            answer: BAD_MAXIMUM,
+            account: empty(MAX_MAXIMUM),
+        };
+    }
+    Made {
+        answer: DONE,
+        account: empty(maximum),
+    }
+}
+
+fn empty(maximum: u64) -> Account
+    ensures { λ r. ⌜ r ≡ freshAccount maximum ⌝ }
+{
+    Account {
+        maximum,
+        grid: [0; 27],
+        open_fragments: 0,
+        open_bytes: 0,
+        taken: 0,
+        refused: 0,
+        total: 0,
+    }
+}
+
+// Whether the account is sound.
+pub fn is_sound(account: Account) -> bool
+    ensures { λ r. ⌜ r ≡ sound account ⌝ }
+{
+    let grid = account.grid;
+    if !are_counts_sound(account.maximum, account.total) {
+        return false;
+    }
+    if !are_rows_sound(grid) {
+        return false;
+    }
+    if !are_singles_sound(grid) {
+        return false;
+    }
+    if !is_sum(
+        grid,
+        account.open_fragments,
+        account.taken,
+        account.refused,
+        account.total,
+    ) {
+        return false;
+    }
+    if account.open_bytes < account.open_fragments {
+        return false;
+    }
+    account.open_bytes <= account.maximum * account.open_fragments
+}
+
+fn are_counts_sound(maximum: u64, total: u64) -> bool
+    ensures { λ r. ⌜ r ≡ countsSound maximum total ⌝ }
+{
+    if maximum < 1 {
+        return false;
+    }
+    if MAX_MAXIMUM < maximum {
+        return false;
+    }
+    total <= LIMIT
+}
+
+fn are_rows_sound(grid: [u64; 27]) -> bool
+    ensures { λ r. ⌜ r ≡ rowsSound 9 grid ⌝ }
+{
+    let mut row: usize = 0;
+    while row < ROWS {
+        let at = row * COLUMNS;
+        if !is_row_sound(grid[at], grid[at + 1], grid[at + 2]) {
+            return false;
+        }
+        row += 1;
+    }
+    true
+}
+
+// Bytes are compared with 240 times the fragments by division, since the product may not fit.
+fn is_row_sound(packets: u64, fragments: u64, bytes: u64) -> bool
+    ensures { λ r. ⌜ r ≡ rowSound packets fragments bytes ⌝ }
+{
+    if fragments < packets {
+        return false;
+    }
+    let whole = bytes / MAX_MAXIMUM;
+    if fragments < whole {
+        return false;
+    }
+    if whole < fragments {
+        return true;
+    }
+    bytes % MAX_MAXIMUM == 0
+}
+
+fn are_singles_sound(grid: [u64; 27]) -> bool
+    ensures { λ r. ⌜ r ≡ singlesSound grid ⌝ }
+{
+    if grid[ABORTED * COLUMNS] != 0 {
+        return false;
+    }
+    if grid[BADLENGTH * COLUMNS] != 0 {
+        return false;
+    }
+    grid[BADLENGTH * COLUMNS + 2] == 0
+}
+
+// Whether the fragments of the grid, the open ones and the commands add up to the total. They are
+// taken from it one by one, since their sum may not fit.
+fn is_sum(grid: [u64; 27], open_fragments: u64, taken: u64, refused: u64, total: u64) -> bool
+    ensures { λ r. ⌜ r ≡ sumHolds grid «open_fragments» taken refused total ⌝ }
+{
+    let mut left = total;
+    let mut row: usize = 0;
+    while row < ROWS {
+        let fragments = grid[row * COLUMNS + 1];
+        if left < fragments {
+            return false;
+        }
+        left -= fragments;
+        row += 1;
+    }
+    if left < open_fragments {
+        return false;
+    }
+    left -= open_fragments;
+    if left < taken {
+        return false;
+    }
+    left - taken == refused
+}

@@ -1,0 +1,8 @@
+pub mod Added
+pub mod Closing
+pub mod Commands
+pub mod Frame
+pub mod Properties
+pub mod Rows
+pub mod Sequences
+pub mod Soundness

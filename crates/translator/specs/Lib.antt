@@ -1,0 +1,6 @@
+pub mod Command
+pub mod Counting
+pub mod Grid
+pub mod Outcome
+pub mod Properties
+pub mod Transact

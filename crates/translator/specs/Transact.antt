@@ -1,0 +1,148 @@
+-- One transaction from end to end (document 01, Answer numbers, and First and Last).
+use Prim.Native.Nat.{ℕ, _+_}
+use mathlib.Core.Bool.{Bool, true, false}
+use mathlib.Core.List.{List}
+use lib.Dec.{eqb, ltb}
+use lib.ListN.{length}
+use Rattle.prelude.specs.Choice.{if_then_else_}
+use Rattle.packet.specs.Store.{maxPacket, appended, filled, sentLength}
+use Rattle.settings.specs.Record as settings-record
+use Rattle.settings.specs.declared.enable.Enabled.{Enabled}
+use Rattle.settings.specs.declared.enable.Enabled.the-variants as enabled
+use Rattle.settings.specs.Enable.{receiveEnabled}
+use Rattle.state.specs.declared.Account.{Account}
+use Rattle.state.specs.Account as grid
+use Rattle.state.specs.Sound.{sound, isOpen}
+use Rattle.translator.specs.declared.Cause.the-variants as cause
+use Rattle.translator.specs.declared.Outcome.{Outcome}
+use Rattle.translator.specs.declared.Outcome.the-variants as outcome
+use Rattle.translator.specs.declared.Transacted.{Transacted}
+use Rattle.translator.specs.declared.Sequence.{Sequence}
+use Rattle.translator.specs.declared.Sequence.the-variants as sequence
+use Rattle.translator.specs.declared.command.Class.{Class}
+use Rattle.translator.specs.declared.command.Class.the-variants as class
+use Rattle.translator.specs.Command.{commands, classIn, hasBothFlags}
+use Rattle.translator.specs.Counting.{ended, single, grown, finished, commanded}
+
+-- account and outcome, and what is left in the store
+pub record Stored : Type 0 where
+  pub result : Transacted
+  pub store : List ℕ
+
+abbrev pub stored : Transacted → List ℕ → Stored
+stored result store = record { result = result; store = store }
+
+-- account and outcome, and what is left in the settings
+pub record Kept : Type 0 where
+  pub result : Transacted
+  pub settings : List ℕ
+
+abbrev pub kept : Transacted → List ℕ → Kept
+kept result settings = record { result = result; settings = settings }
+
+-- account and outcome, and what is left in both
+pub record Done : Type 0 where
+  pub result : Transacted
+  pub store : List ℕ
+  pub settings : List ℕ
+
+abbrev pub done : Transacted → List ℕ → List ℕ → Done
+done result store settings = record { result = result; store = store; settings = settings }
+
+abbrev pub with : Account → Outcome → Transacted
+with account o = record { account = account; outcome = o }
+
+-- "Last taken, total below 17"
+abbrev pub minPacket : ℕ
+minPacket = 17
+
+-- "3 comes before the sequence rule"; "None open and First: opened", "Open and not First: appended"; with the bytes so far
+unfoldable pub sequenceOf : Bool → ℕ → ℕ → ℕ → ℕ → Sequence
+sequenceOf first size maximum openFragments openBytes =
+    if ltb size 1 then sequence.BadLength else
+    if ltb maximum size then sequence.BadLength else
+    if first then sequence.Joins 0 else
+    if ltb 0 openFragments then sequence.Joins openBytes else
+    sequence.Aborted
+
+-- "A fragment answered 3 wasn't received correctly, so the packet can't be sent: it is broken (house)."; "not First, none open: abort status". A fragment that joins is never dropped
+unfoldable pub dropped : Sequence → ℕ → Account → Transacted
+dropped sequence.BadLength size a = with (single grid.badlength 0 (ended grid.broken a)) (outcome.Discarded cause.BadLength)
+dropped sequence.Aborted size a = with (single grid.aborted size a) (outcome.Discarded cause.Aborted)
+dropped (sequence.Joins at) size a = with a outcome.Taken
+
+-- "Open and First: the open packet is superseded, the current fragment starts a new one, no abort."
+unfoldable pub begun : Bool → Account → Account
+begun first a = if first then ended grid.superseded a else a
+
+-- a Last: 4 before 5 before 6, else sent, with the fill
+unfoldable pub lastJudged : ℕ → Bool → Account → List ℕ → Stored
+lastJudged size linkUp a store =
+    if ltb maxPacket (a .«open_bytes» + size) then stored (with (finished grid.over size a) (outcome.Discarded cause.Over)) store else
+    if ltb (a .«open_bytes» + size) minPacket then stored (with (finished grid.short size a) (outcome.Discarded cause.Short)) store else
+    if linkUp then
+    stored (with (finished grid.sent size a) (outcome.Sent (sentLength (a .«open_bytes» + size)))) (filled store (a .«open_bytes» + size))
+    else stored (with (finished grid.linkdown size a) (outcome.Discarded cause.LinkDown)) store
+
+-- a fragment that joins a packet of so many bytes, which it follows in the store
+unfoldable pub joined : ℕ → List ℕ → Bool → Bool → Account → List ℕ → Stored
+joined at bytes last linkUp a store =
+    if last then lastJudged (length bytes) linkUp a (appended store at bytes) else
+    stored (with (grown (length bytes) a) outcome.Taken) (appended store at bytes)
+
+unfoldable pub bySequence : Sequence → List ℕ → Bool → Bool → Bool → Account → List ℕ → Stored
+bySequence (sequence.Joins at) bytes first last linkUp a store = joined at bytes last linkUp (begun first a) store
+bySequence sequence.BadLength bytes first last linkUp a store = stored (dropped sequence.BadLength (length bytes) a) store
+bySequence sequence.Aborted bytes first last linkUp a store = stored (dropped sequence.Aborted (length bytes) a) store
+
+unfoldable pub fragment : List ℕ → Bool → Bool → Bool → Account → List ℕ → Stored
+fragment bytes first last linkUp a =
+    bySequence (sequenceOf first (length bytes) (a .maximum) (a .«open_fragments») (a .«open_bytes»)) bytes first last linkUp a
+
+abbrev pub isTaken : Enabled → Bool
+isTaken enabled.TooShort = false
+isTaken enabled.NotSound = false
+isTaken enabled.BadLength = false
+isTaken enabled.BadControl = false
+isTaken enabled.NoMac = false
+isTaken enabled.Taken = true
+
+-- "Flush: any command with both F and L set, other than 0xC4, ends the open packet, even when it is then answered 7, 8, 9 or 10."
+unfoldable pub enable : List ℕ → Account → List ℕ → Kept
+enable bytes a settings =
+    kept
+    (with (commanded (isTaken (receiveEnabled settings bytes .answer)) (ended grid.flushed a)) (outcome.Enable (receiveEnabled settings bytes .answer)))
+    (receiveEnabled settings bytes .settings)
+
+-- "An unknown command without both flags ends nothing."
+unfoldable pub unknown : ℕ → Account → Transacted
+unknown command a =
+    if hasBothFlags command then with (commanded false (ended grid.flushed a)) outcome.Unknown else
+    with (commanded false a) outcome.Unknown
+
+-- a fragment leaves the settings, a command the store
+abbrev pub inStore : Stored → List ℕ → Done
+inStore s settings = done (s .result) (s .store) settings
+
+abbrev pub inSettings : Kept → List ℕ → Done
+inSettings k store = done (k .result) store (k .settings)
+
+unfoldable pub byClass : Class → ℕ → List ℕ → Bool → Account → List ℕ → List ℕ → Done
+byClass class.First command bytes linkUp a store settings = inStore (fragment bytes true false linkUp a store) settings
+byClass class.Middle command bytes linkUp a store settings = inStore (fragment bytes false false linkUp a store) settings
+byClass class.Last command bytes linkUp a store settings = inStore (fragment bytes false true linkUp a store) settings
+byClass class.Whole command bytes linkUp a store settings = inStore (fragment bytes true true linkUp a store) settings
+byClass class.Enable command bytes linkUp a store settings = inSettings (enable bytes a settings) store
+byClass class.Unknown command bytes linkUp a store settings = done (unknown command a) store settings
+
+-- "Order: 12, 13, 14; then by command."
+unfoldable pub transacted : Account → List ℕ → List ℕ → ℕ → List ℕ → Bool → Done
+transacted a store settings command bytes linkUp =
+    if ltb (length store) maxPacket then done (with a outcome.NoRoom) store settings else
+    if ltb (length settings) settings-record.size then done (with a outcome.NoRoom) store settings else
+    if sound a then
+    (if settings-record.sound settings then
+    (if eqb (a .total) grid.limit then done (with a outcome.Full) store settings else
+    byClass (classIn commands command) command bytes linkUp a store settings)
+    else done (with a outcome.NotSound) store settings)
+    else done (with a outcome.NotSound) store settings

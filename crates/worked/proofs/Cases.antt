@@ -1,0 +1,25 @@
+-- Each worked example is what the rules compute.
+-- Assumes nothing.
+use mathlib.Core.Path.{refl}
+use Rattle.prelude.specs.Choice.{if_then_else_}
+use Rattle.prelude.specs.Parts.{put}
+use Rattle.setlink.specs.Decide.{negotiatedReason, forcedReason, parameterReason, reason, decided}
+use Rattle.setlink.specs.Word.{takes, fits, anyFits}
+use Rattle.status.specs.Block as block
+use Rattle.settings.specs.Record as settings-record
+use Rattle.settings.specs.Enable.{receiveEnabled}
+use Rattle.packet.specs.Store.{appended, sentLength}
+use Rattle.state.specs.Account.{allFragments}
+use Rattle.state.specs.Sound as account
+use Rattle.translator.specs.Command.{classIn}
+use Rattle.translator.specs.Counting.{addTo, ended, single, grown, commanded}
+use Rattle.translator.specs.Transact.{sequenceOf, dropped, begun, lastJudged, joined, bySequence, fragment, enable, byClass, transacted}
+use Rattle.worked.specs.Cases.{answersFrom, Worked}
+
+pub worked : Worked
+unfolding answersFrom transacted byClass fragment bySequence joined lastJudged begun dropped sequenceOf enable classIn
+    addTo ended single grown commanded account.countsSound account.rowSound account.rowsSound account.singlesSound account.sumHolds account.sound allFragments
+    appended sentLength put receiveEnabled settings-record.allowed settings-record.withSettings settings-record.hasItsMac settings-record.sound
+    decided reason parameterReason negotiatedReason forcedReason anyFits fits takes
+    block.written block.block block.allowed block.indexAllowed block.mngStatus if_then_else_
+worked = (refl, (refl, (refl, (refl, (refl, (refl, (refl, (refl, (refl, (refl, (refl, (refl, (refl, (refl, (refl, tt)))))))))))))))

@@ -1,0 +1,157 @@
+//! The account: what became of every counted transaction, and the packet that
+//! is open.
+
+use crate::answer_numbers::{DONE, MAXIMUM_NOT_ALLOWED};
+
+/// The highest fragment maximum, and the one that a fresh account gets in
+/// place of one that is not allowed.
+pub const HIGHEST_MAXIMUM: u64 = 240;
+/// The total of a full account.
+pub const HIGHEST_TOTAL: u64 = 4_294_967_295;
+
+/// The rows of the grid.
+pub const FATES: usize = 9;
+/// The columns of the grid.
+pub const COLUMNS: usize = 3;
+/// The numbers of an account.
+pub const NUMBERS: usize = 1 + FATES * COLUMNS + 5;
+
+/// The column of packets.
+pub const PACKETS: usize = 0;
+/// The column of fragments.
+pub const FRAGMENTS: usize = 1;
+/// The column of bytes, without fill.
+pub const BYTES: usize = 2;
+
+/// What becomes of a packet or of a single fragment; the rows of the grid.
+#[derive(Clone, Copy, Debug, PartialEq, Eq)]
+pub enum Fate {
+    /// Sent.
+    Sent,
+    /// Ended by a First before its Last.
+    Superseded,
+    /// Ended by another command with F and L set.
+    Flushed,
+    /// Ended by a fragment of a length that is not allowed.
+    Broken,
+    /// Discarded, its total too long.
+    Over,
+    /// Discarded, its total too short.
+    Short,
+    /// Discarded, the link down at its Last.
+    LinkDown,
+    /// A fragment of no packet.
+    Aborted,
+    /// A fragment of a length that is not allowed.
+    BadLength,
+}
+
+/// The rows of the grid in their order.
+pub const ROWS: [Fate; FATES] = [
+    Fate::Sent,
+    Fate::Superseded,
+    Fate::Flushed,
+    Fate::Broken,
+    Fate::Over,
+    Fate::Short,
+    Fate::LinkDown,
+    Fate::Aborted,
+    Fate::BadLength,
+];
+
+/// An account; any numbers may be handed in.
+#[derive(Clone, Copy, Debug, Default, PartialEq, Eq)]
+pub struct Account {
+    /// The most data bytes of a fragment.
+    pub maximum: u64,
+    /// Packets, fragments and bytes of each fate.
+    pub grid: [[u64; COLUMNS]; FATES],
+    /// Fragments of the open packet; one is open where this is not zero.
+    pub open_fragments: u64,
+    /// Bytes of the open packet.
+    pub open_bytes: u64,
+    /// Commands taken.
+    pub taken: u64,
+    /// Commands refused.
+    pub refused: u64,
+    /// All counted transactions.
+    pub total: u64,
+}
+
+impl Account {
+    /// The account of these numbers, in the order of the fields.
+    pub fn of_numbers(numbers: [u64; NUMBERS]) -> Account {
+        let mut rest = numbers.into_iter();
+        let mut next = || rest.next().unwrap_or_default();
+        Account {
+            maximum: next(),
+            grid: std::array::from_fn(|_| std::array::from_fn(|_| next())),
+            open_fragments: next(),
+            open_bytes: next(),
+            taken: next(),
+            refused: next(),
+            total: next(),
+        }
+    }
+
+    /// The numbers of the account, in the order of the fields.
+    pub fn numbers(&self) -> [u64; NUMBERS] {
+        let beside = [self.open_fragments, self.open_bytes, self.taken, self.refused, self.total];
+        let mut all =
+            [self.maximum].into_iter().chain(self.grid.into_iter().flatten()).chain(beside);
+        std::array::from_fn(|_| all.next().unwrap_or_default())
+    }
+}
+
+/// Makes a fresh account: the answer, and the account or, refused, the one for
+/// the highest maximum.
+pub fn fresh(maximum: u32) -> (u8, Account) {
+    let maximum = u64::from(maximum);
+    if maximum_allowed(maximum) {
+        (DONE, Account { maximum, ..Account::default() })
+    } else {
+        (MAXIMUM_NOT_ALLOWED, Account { maximum: HIGHEST_MAXIMUM, ..Account::default() })
+    }
+}
+
+/// Whether an account is sound.
+pub fn is_sound(account: &Account) -> bool {
+    u128::from(account.total) == sum_of_lines(account)
+        && account.total <= HIGHEST_TOTAL
+        && ROWS.iter().all(|fate| row_sound(*fate, account.grid[*fate as usize]))
+        && maximum_allowed(account.maximum)
+        && open_sound(account)
+}
+
+fn maximum_allowed(maximum: u64) -> bool {
+    (1..=HIGHEST_MAXIMUM).contains(&maximum)
+}
+
+/// All fragments of the grid, and the transactions beside it. It is wide
+/// enough for any numbers.
+fn sum_of_lines(account: &Account) -> u128 {
+    let in_grid: u128 = account.grid.iter().map(|row| u128::from(row[FRAGMENTS])).sum();
+    in_grid
+        + u128::from(account.open_fragments)
+        + u128::from(account.taken)
+        + u128::from(account.refused)
+}
+
+fn row_sound(fate: Fate, row: [u64; COLUMNS]) -> bool {
+    let has_packets = !matches!(fate, Fate::Aborted | Fate::BadLength);
+    let has_bytes = fate != Fate::BadLength;
+    row[PACKETS] <= row[FRAGMENTS]
+        && at_most(row[BYTES], HIGHEST_MAXIMUM, row[FRAGMENTS])
+        && (has_packets || row[PACKETS] == 0)
+        && (has_bytes || row[BYTES] == 0)
+}
+
+fn open_sound(account: &Account) -> bool {
+    account.open_bytes >= account.open_fragments
+        && at_most(account.open_bytes, account.maximum, account.open_fragments)
+}
+
+/// Whether a number of bytes fits into fragments of a size.
+fn at_most(bytes: u64, size: u64, fragments: u64) -> bool {
+    u128::from(bytes) <= u128::from(size) * u128::from(fragments)
+}

@@ -1,0 +1,154 @@
+//! Answers cases of the store, the account and transactions.
+
+use reference::account::{self, Account, NUMBERS};
+use reference::history::Transaction;
+use reference::packet;
+
+use super::carried::Carried;
+use super::{digest, Stopped};
+use crate::text::{Fields, Line, NotACase};
+
+/// The largest store that is carried, and the most data made by a pattern.
+const MOST_BYTES: u16 = 2048;
+/// The longest settings that are carried.
+const MOST_SETTINGS: usize = 64;
+
+const PATTERN_STEP: u8 = 7;
+const NUMBER_BYTES: usize = 8;
+const ACCOUNT_BYTES: usize = NUMBERS * NUMBER_BYTES;
+
+/// Writes a fragment into a store.
+pub fn append(mut fields: Fields) -> Result<Line, Stopped> {
+    let mut store = store(&mut fields)?;
+    let at = fields.u64()?;
+    let fragment = fields.bytes()?;
+    fields.end()?;
+    packet::append(&mut store, at, &fragment);
+    Ok(Line::answer().u32(digest(&store)))
+}
+
+/// Fills a packet up in a store.
+pub fn fill(mut fields: Fields) -> Result<Line, Stopped> {
+    let mut store = store(&mut fields)?;
+    let length = fields.u64()?;
+    fields.end()?;
+    packet::fill(&mut store, length);
+    Ok(Line::answer().u32(digest(&store)))
+}
+
+/// Shows a part of a store.
+pub fn shown(mut fields: Fields) -> Result<Line, Stopped> {
+    let store = store(&mut fields)?;
+    let length = fields.u64()?;
+    fields.end()?;
+    Ok(part(packet::shown(&store, length)))
+}
+
+/// Makes a fresh account.
+pub fn fresh_account(mut fields: Fields) -> Result<Line, Stopped> {
+    let maximum = fields.u32()?;
+    fields.end()?;
+    let (answer, account) = account::fresh(maximum);
+    Ok(Line::answer().u8(answer).bytes(&account_bytes(&account)))
+}
+
+/// Tells whether an account is sound.
+pub fn sound_account(mut fields: Fields) -> Result<Line, Stopped> {
+    let account = account(&mut fields)?;
+    fields.end()?;
+    Ok(Line::answer().bool(account::is_sound(&account)))
+}
+
+/// Carries an account, a store and settings from here on.
+pub fn start(carried: &mut Carried, mut fields: Fields) -> Result<Line, Stopped> {
+    let account = account(&mut fields)?;
+    let store = limited_pattern(&mut fields)?;
+    let settings = fields.bytes()?;
+    fields.end()?;
+    if settings.len() > MOST_SETTINGS {
+        return Err("settings that are too long".into());
+    }
+    *carried = Carried::start(account, store, settings);
+    Ok(Line::answer().bool(account::is_sound(&account)))
+}
+
+/// Does a transaction on what is carried.
+pub fn send(carried: &mut Carried, mut fields: Fields) -> Result<Line, Stopped> {
+    let command = fields.u8()?;
+    let link_up = fields.bool()?;
+    let data = fields.bytes()?;
+    fields.end()?;
+    transact(carried, Transaction { command, data, link_up })
+}
+
+/// Does a transaction on what is carried, its data made by a pattern.
+pub fn send_pattern(carried: &mut Carried, mut fields: Fields) -> Result<Line, Stopped> {
+    let command = fields.u8()?;
+    let link_up = fields.bool()?;
+    let data = limited_pattern(&mut fields)?;
+    fields.end()?;
+    transact(carried, Transaction { command, data, link_up })
+}
+
+/// Shows the account and the settings that are carried.
+pub fn show(carried: &Carried, fields: Fields) -> Result<Line, Stopped> {
+    fields.end()?;
+    Ok(Line::answer().bytes(&account_bytes(&carried.account)).bytes(&carried.settings))
+}
+
+/// Shows a part of the store that is carried.
+pub fn packet(carried: &Carried, mut fields: Fields) -> Result<Line, Stopped> {
+    let length = fields.u64()?;
+    fields.end()?;
+    Ok(part(packet::shown(&carried.store, length)))
+}
+
+fn transact(carried: &mut Carried, transaction: Transaction) -> Result<Line, Stopped> {
+    let (answer, sent) = carried.transact(transaction).map_err(Stopped::Disagreement)?;
+    Ok(Line::answer()
+        .u8(answer)
+        .u16(sent)
+        .u32(digest(&account_bytes(&carried.account)))
+        .u32(digest(&carried.store))
+        .u32(digest(&carried.settings)))
+}
+
+fn store(fields: &mut Fields) -> Result<Vec<u8>, NotACase> {
+    let size = fields.u16()?;
+    let seed = fields.u8()?;
+    Ok(pattern(size, seed))
+}
+
+fn limited_pattern(fields: &mut Fields) -> Result<Vec<u8>, NotACase> {
+    let size = fields.u16()?;
+    let seed = fields.u8()?;
+    if size > MOST_BYTES {
+        return Err("a pattern that is too long");
+    }
+    Ok(pattern(size, seed))
+}
+
+fn pattern(size: u16, seed: u8) -> Vec<u8> {
+    (0..size).map(|place| seed.wrapping_add(PATTERN_STEP.wrapping_mul(place as u8))).collect()
+}
+
+fn part(part: &[u8]) -> Line {
+    // A part is never longer than the longest packet.
+    Line::answer().u16(part.len() as u16).u32(digest(part))
+}
+
+fn account(fields: &mut Fields) -> Result<Account, NotACase> {
+    let bytes = fields.bytes()?;
+    if bytes.len() != ACCOUNT_BYTES {
+        return Err("an account of the wrong size");
+    }
+    let mut numbers = [0; NUMBERS];
+    for (number, bytes) in numbers.iter_mut().zip(bytes.chunks(NUMBER_BYTES)) {
+        *number = bytes.iter().fold(0, |number, byte| number << 8 | u64::from(*byte));
+    }
+    Ok(Account::of_numbers(numbers))
+}
+
+fn account_bytes(account: &Account) -> Vec<u8> {
+    account.numbers().iter().flat_map(|number| number.to_be_bytes()).collect()
+}

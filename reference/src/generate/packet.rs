@@ -1,0 +1,175 @@
+//! Cases of the lent store.
+
+use super::Cases;
+use crate::random::Random;
+use crate::text::Line;
+
+const SEED: u64 = 0x0000_9ac4;
+
+const STORE_SEED: u8 = 0x31;
+const FRAGMENT: [u8; 9] = [0xf1, 0xf2, 0xf3, 0xf4, 0xf5, 0xf6, 0xf7, 0xf8, 0xf9];
+
+const STORES: [u16; 12] = [0, 1, 9, 16, 63, 64, 65, 1535, 1536, 1537, 1600, 2048];
+
+/// Far beyond any store, where a sum with a length may wrap round.
+const HUGE: [u64; 7] =
+    [1 << 16, 1 << 32, (1 << 32) + 5, 1 << 63, u64::MAX - 9, u64::MAX - 8, u64::MAX];
+
+/// Name, size of the store, place, bytes of the fragment.
+const APPENDS: [(&str, u16, u64, usize); 30] = [
+    ("at 0 of a store of 1536: written", 1536, 0, 9),
+    ("one byte at 0: written", 1536, 0, 1),
+    ("in the middle, at 700: written, the bytes on both sides stay", 1536, 700, 9),
+    ("ending at 1535: written", 1536, 1526, 9),
+    ("ending at 1536, the end of the longest packet: written", 1536, 1527, 9),
+    ("ending at 1537, past the store and the longest packet: nothing", 1536, 1528, 9),
+    ("ending at 1536 of a store of 1537: written", 1537, 1527, 9),
+    ("ending at 1537 of a store of 1537, past the longest packet: nothing", 1537, 1528, 9),
+    ("ending at 1537 of a store of 2048, past the longest packet: nothing", 2048, 1528, 9),
+    ("one byte at 1535: written", 1536, 1535, 1),
+    ("one byte at 1536 of a store of 2048: nothing", 2048, 1536, 1),
+    ("ending at 1535 of a store of 1535: written", 1535, 1526, 9),
+    ("ending at 1536 of a store of 1535, past the store: nothing", 1535, 1527, 9),
+    ("ending at 63 of a store of 63: written", 63, 54, 9),
+    ("ending at 64 of a store of 63, past the store: nothing", 63, 55, 9),
+    ("ending at 64 of a store of 64: written", 64, 55, 9),
+    ("into a store of no bytes: nothing", 0, 0, 9),
+    ("no bytes into a store of no bytes: nothing", 0, 0, 0),
+    ("no bytes at 0: nothing", 1536, 0, 0),
+    ("no bytes at 1536: nothing", 1536, 1536, 0),
+    ("no bytes at 1537: nothing", 1536, 1537, 0),
+    ("no bytes at 2 to the power of 64 less 1: nothing", 1536, u64::MAX, 0),
+    ("at 1536 of a store of 1536: nothing", 1536, 1536, 9),
+    ("at 1537 of a store of 1536: nothing", 1536, 1537, 9),
+    ("at 2 to the power of 63: nothing", 1536, 1 << 63, 9),
+    ("at 2 to the power of 64 less 1, where the sum wraps round to 8: nothing", 1536, u64::MAX, 9),
+    ("one byte at 2 to the power of 64 less 1, sum 0: nothing", 1536, u64::MAX, 1),
+    ("at 2 to the power of 64 less 9, sum 0: nothing", 1536, u64::MAX - 8, 9),
+    ("at 2 to the power of 32, where a cut place would be 0: nothing", 1536, 1 << 32, 9),
+    ("at 2 to the power of 16, where a cut place would be 0: nothing", 1536, 1 << 16, 9),
+];
+
+/// Name, size of the store, length of the packet.
+const FILLS: [(&str, u16, u64); 18] = [
+    ("length 0: 64 zeros", 1536, 0),
+    ("length 1: bytes 1 to 63 zero", 1536, 1),
+    ("length 16: bytes 16 to 63 zero", 1536, 16),
+    ("length 17: bytes 17 to 63 zero", 1536, 17),
+    ("length 63: byte 63 zero", 1536, 63),
+    ("length 64: nothing", 1536, 64),
+    ("length 65: nothing", 1536, 65),
+    ("length 1536: nothing", 1536, 1536),
+    ("length 2 to the power of 64 less 1: nothing", 1536, u64::MAX),
+    ("length 2 to the power of 32, which cut would be 0: nothing", 1536, 1 << 32),
+    ("length 0, store of 64: 64 zeros", 64, 0),
+    ("length 17, store of 64: bytes 17 to 63 zero", 64, 17),
+    ("length 63, store of 64: byte 63 zero", 64, 63),
+    ("length 0, store of 63: nothing", 63, 0),
+    ("length 17, store of 63: nothing", 63, 17),
+    ("length 63, store of 63: nothing", 63, 63),
+    ("length 0, store of no bytes: nothing", 0, 0),
+    ("length 17, store of no bytes: nothing", 0, 17),
+];
+
+/// Name, size of the store, length asked for.
+const SHOWN: [(&str, u16, u64); 20] = [
+    ("length 0: an empty part", 1536, 0),
+    ("length 1: the first byte", 1536, 1),
+    ("length 64: 64 bytes", 1536, 64),
+    ("length 1535: 1535 bytes", 1536, 1535),
+    ("length 1536: 1536 bytes", 1536, 1536),
+    ("length 1537, above the store: an empty part", 1536, 1537),
+    ("length 1536, store of 2048: 1536 bytes", 2048, 1536),
+    ("length 1537, store of 2048, above the longest packet: an empty part", 2048, 1537),
+    ("length 2048, store of 2048, above the longest packet: an empty part", 2048, 2048),
+    ("length 1537, store of 1537, above the longest packet: an empty part", 1537, 1537),
+    ("length 1535, store of 1535: 1535 bytes", 1535, 1535),
+    ("length 1536, store of 1535, above the store: an empty part", 1535, 1536),
+    ("length 63, store of 63: 63 bytes", 63, 63),
+    ("length 64, store of 63, above the store: an empty part", 63, 64),
+    ("length 0, store of no bytes: an empty part", 0, 0),
+    ("length 1, store of no bytes: an empty part", 0, 1),
+    ("length 2 to the power of 64 less 1: an empty part", 1536, u64::MAX),
+    ("length 2 to the power of 63: an empty part", 1536, 1 << 63),
+    (
+        "length 2 to the power of 32 and 64, which cut would be 64: an empty part",
+        1536,
+        0x1_0000_0040,
+    ),
+    ("length 2 to the power of 16 and 64, which cut would be 64: an empty part", 1536, 0x1_0040),
+];
+
+/// Adds the cases of this subject.
+pub fn generate(cases: &mut Cases) {
+    cases.group("Store: a fragment written");
+    for (name, store, at, bytes) in APPENDS {
+        cases.name(name);
+        cases.case(append(store, STORE_SEED, at, &FRAGMENT[..bytes]));
+    }
+    cases.group("Store: a packet filled up");
+    for (name, store, length) in FILLS {
+        cases.name(name);
+        cases.case(of_length("fill", store, STORE_SEED, length));
+    }
+    cases.group("Store: a part shown");
+    for (name, store, length) in SHOWN {
+        cases.name(name);
+        cases.case(of_length("shown", store, STORE_SEED, length));
+    }
+    sweeps(cases);
+    random(cases);
+}
+
+fn sweeps(cases: &mut Cases) {
+    cases.group("Store: fragments of 0, 1, 2 and 9 bytes around the end of each store and of 1536");
+    for store in STORES {
+        for end in [u64::from(store), 1536] {
+            for bytes in [0, 1, 2, 9] {
+                for at in (end.saturating_sub(bytes as u64 + 1)..).take(3) {
+                    cases.case(append(store, STORE_SEED, at, &FRAGMENT[..bytes]));
+                }
+            }
+        }
+    }
+    cases.group("Store: fragments at places far beyond");
+    for at in HUGE {
+        for (store, bytes) in [(0, 1), (64, 9), (1536, 9), (2048, 8)] {
+            cases.case(append(store, STORE_SEED, at, &FRAGMENT[..bytes]));
+        }
+    }
+    cases.group("Store: fill and part for each store and lengths around its edges");
+    for store in STORES {
+        let edges = [0, 1, 16, 17, 62, 63, 64, 65, 1535, 1536, 1537, 2047, 2048, 2049];
+        let own = [u64::from(store), u64::from(store) + 1];
+        for length in edges.into_iter().chain(own).chain(HUGE) {
+            cases.case(of_length("fill", store, STORE_SEED, length));
+            cases.case(of_length("shown", store, STORE_SEED, length));
+        }
+    }
+    cases.group("Store: fill for each length up to 70, store of 1536");
+    for length in 0..=70 {
+        cases.case(of_length("fill", 1536, STORE_SEED, length));
+    }
+}
+
+fn random(cases: &mut Cases) {
+    let mut random = Random::new(SEED);
+    cases.group("Store: random stores, places and fragments");
+    for _ in 0..120 {
+        let store = if random.one_in(3) { random.below(2049) as u16 } else { random.pick(&STORES) };
+        let at = random.below(1700);
+        let bytes = random.pick(&[1, 3, 17, 64, 240]);
+        let fragment = random.bytes(bytes);
+        cases.case(append(store, random.byte(), at, &fragment));
+        cases.case(of_length("fill", store, random.byte(), random.below(80)));
+        cases.case(of_length("shown", store, random.byte(), random.below(1700)));
+    }
+}
+
+fn append(store: u16, seed: u8, at: u64, fragment: &[u8]) -> Line {
+    Line::case("append").u16(store).u8(seed).u64(at).bytes(fragment)
+}
+
+fn of_length(operation: &str, store: u16, seed: u8, length: u64) -> Line {
+    Line::case(operation).u16(store).u8(seed).u64(length)
+}

@@ -1,0 +1,119 @@
+//! Cases of single transactions and of short lists of them, by name.
+
+mod refused;
+mod sweeps;
+mod worked;
+
+use std::iter;
+
+use super::{account, Cases};
+use crate::text::Line;
+use reference::account::Account;
+use reference::settings::RECORD_BYTES;
+
+/// The size of a store that is just large enough.
+pub const STORE_BYTES: u16 = 1536;
+/// The seed of a store before anything is written.
+pub const STORE_SEED: u8 = 0x5b;
+/// A fresh settings record.
+pub const FRESH_SETTINGS: [u8; RECORD_BYTES] = [0x40, 0, 0, 0, 0, 0, 0, 0, 0, 0, 0, 0, 0, 0, 0];
+
+/// Makes the data of two fragments differ, also those of equal sizes.
+const SEED_STEP: usize = 37;
+
+/// A transaction and its answer.
+#[derive(Clone, Copy)]
+struct Send {
+    command: u8,
+    link_up: bool,
+    size: u16,
+    /// The first data byte, where it matters.
+    control: Option<u8>,
+    answer: u8,
+    /// How often it comes one after the other.
+    times: usize,
+}
+
+impl Send {
+    /// The same transaction so many times.
+    const fn times(self, times: usize) -> Send {
+        Send { times, ..self }
+    }
+}
+
+/// Name, fragment maximum, and the transactions from a fresh state on.
+type Named = (&'static str, u32, &'static [Send]);
+
+/// Adds the cases of this subject.
+pub fn generate(cases: &mut Cases) {
+    worked::generate(cases);
+    refused::generate(cases);
+    sweeps::generate(cases);
+}
+
+/// A transaction of so many bytes with the link up, and its answer.
+const fn up(command: u8, size: u16, answer: u8) -> Send {
+    Send { command, link_up: true, size, control: None, answer, times: 1 }
+}
+
+/// A transaction of so many bytes with the link down, and its answer.
+const fn down(command: u8, size: u16, answer: u8) -> Send {
+    Send { command, link_up: false, size, control: None, answer, times: 1 }
+}
+
+/// A Receive Enable of so many bytes that begin with a control byte.
+const fn enable(control: u8, size: u16, answer: u8) -> Send {
+    Send { command: 0xca, link_up: true, size, control: Some(control), answer, times: 1 }
+}
+
+/// Names the list with its answers, does it from a fresh state on, and shows
+/// the account.
+fn list_from_fresh(cases: &mut Cases, name: &str, maximum: u32, list: &[Send]) {
+    cases.name(&format!("{name}: {}", answers(list)));
+    let (_, account) = reference::account::fresh(maximum);
+    cases.case(start(&account, STORE_BYTES, &FRESH_SETTINGS));
+    sends(cases, list);
+    cases.case(show());
+}
+
+fn answers(list: &[Send]) -> String {
+    let numbers: Vec<String> = single(list).map(|send| send.answer.to_string()).collect();
+    format!("answers {}", numbers.join(", "))
+}
+
+fn sends(cases: &mut Cases, list: &[Send]) {
+    for (place, send) in single(list).enumerate() {
+        let seed = send.control.unwrap_or((SEED_STEP * (place + 1)) as u8);
+        cases.case(send_pattern(send.command, send.link_up, send.size, seed));
+    }
+}
+
+/// The transactions of a list, each as often as it comes.
+fn single(list: &[Send]) -> impl Iterator<Item = Send> + '_ {
+    list.iter().flat_map(|send| iter::repeat_n(*send, send.times))
+}
+
+/// The case that carries an account, a store of the pattern and settings.
+pub fn start(account: &Account, store: u16, settings: &[u8]) -> Line {
+    Line::case("start").bytes(&account::bytes(account)).u16(store).u8(STORE_SEED).bytes(settings)
+}
+
+/// The case of a transaction with any data.
+pub fn send(command: u8, link_up: bool, data: &[u8]) -> Line {
+    Line::case("send").u8(command).bool(link_up).bytes(data)
+}
+
+/// The case of a transaction with data of the pattern.
+pub fn send_pattern(command: u8, link_up: bool, size: u16, seed: u8) -> Line {
+    Line::case("send-pattern").u8(command).bool(link_up).u16(size).u8(seed)
+}
+
+/// The case that shows the account and the settings.
+pub fn show() -> Line {
+    Line::case("show")
+}
+
+/// The case that shows a part of the store.
+pub fn packet(length: u64) -> Line {
+    Line::case("packet").u64(length)
+}
