@@ -8,7 +8,6 @@ use crate::buffer::NOT_A_CASE;
 use crate::fields;
 use address::Address;
 use address::Source;
-use settings::Enabled;
 
 // Answers as link::answer does.
 pub(crate) fn answer(bytes: &Buffer, ends: &[usize], text: &mut Buffer) -> usize {
@@ -44,7 +43,7 @@ fn answer_enable(bytes: &Buffer, ends: &[usize], text: &mut Buffer) -> usize {
     let size = buffer::fill(&mut space, fields::at(bytes, ends, 1));
     let settings = &mut space[0..size];
     let answer = settings::receive_enable(settings, fields::at(bytes, ends, 2));
-    let end = put_u8(text, 0, answer_number(answer));
+    let end = put_u8(text, 0, (settings::number(answer) % 256) as u8);
     put_bytes(text, end, settings)
 }
 
@@ -72,16 +71,5 @@ fn source_number(source: Source) -> u8 {
         Source::Nowhere => 0,
         Source::Record => 1,
         Source::Flash => 2,
-    }
-}
-
-fn answer_number(answer: Enabled) -> u8 {
-    match answer {
-        Enabled::TooShort => 12,
-        Enabled::NotSound => 13,
-        Enabled::BadLength => 8,
-        Enabled::BadControl => 9,
-        Enabled::NoMac => 10,
-        Enabled::Taken => 11,
     }
 }

@@ -7,10 +7,10 @@ use mathlib.Core.Path.{_≡_, refl, ap, subst, _∙_}
 use native.Mathlib.Omega.{arith}
 use lib.ListN.{length, getD, take, drop, replicate, length-replicate, length-take, List·getD-append}
 use lib.Seq.{getD-take, getD-drop, getD-append-add, length-take-le}
-use borrow.Author.Tests.{ltb-true, ltb-false}
+use borrow.Author.Tests.{lt-ltb, ltb-true, ltb-false}
 use Rattle.prelude.specs.Parts.{put}
 use Rattle.prelude.proofs.Lists.{length-put}
-use Rattle.prelude.proofs.Tests.{if-cases}
+use Rattle.prelude.proofs.Tests.{if-true, if-cases}
 use Rattle.packet.specs.Store.{maxPacket, minSent, appended, filled}
 use Rattle.packet.specs.Properties.{ChangesOnly, LeavesTheRest}
 
@@ -49,6 +49,10 @@ appending store fragment at =
     (λ _. if-cases (ChangesOnly at (at + length fragment) store) _ _ _ (λ _. unchanged at (at + length fragment) store)
     (λ room. put-changes store fragment at (ltb-false _ _ room)))
 
+appending-too-much : (store fragment : List ℕ) (at : ℕ) → maxPacket < at + length fragment → appended store at fragment ≡ store
+unfolding appended
+appending-too-much store fragment at past = if-true _ _ _ (lt-ltb _ _ past)
+
 appending-past : (store fragment : List ℕ) (at k : ℕ) → maxPacket ≤ k → getD (appended store at fragment) k 0 ≡ getD store k 0
 unfolding appended
 appending-past store fragment at k past =
@@ -78,4 +82,4 @@ filling store total =
     (λ _. unchanged total minSent store)
 
 pub leaves-the-rest : LeavesTheRest
-leaves-the-rest = record { appending = appending; appending-past = appending-past; filling = filling }
+leaves-the-rest = record { appending = appending; appending-too-much = appending-too-much; appending-past = appending-past; filling = filling }

@@ -11,8 +11,9 @@ pub record ChangesOnly (from to : ℕ) (before after : List ℕ) : Type 0 where
   pub same-length : length after ≡ length before
   pub elsewhere : (k : ℕ) → (k < from) ⊎ (to ≤ k) → getD after k 0 ≡ getD before k 0
 
--- "no other byte changes", and none past 1536
+-- "no other byte changes", none past 1536, and "A fragment that takes the total past 1536 writes nothing"
 pub record LeavesTheRest : Type 0 where
   pub appending : (store fragment : List ℕ) (at : ℕ) → ChangesOnly at (at + length fragment) store (appended store at fragment)
+  pub appending-too-much : (store fragment : List ℕ) (at : ℕ) → maxPacket < at + length fragment → appended store at fragment ≡ store
   pub appending-past : (store fragment : List ℕ) (at k : ℕ) → maxPacket ≤ k → getD (appended store at fragment) k 0 ≡ getD store k 0
   pub filling : (store : List ℕ) (total : ℕ) → ChangesOnly total minSent store (filled store total)

@@ -4,6 +4,7 @@ use crate::IPV4;
 use crate::KEPT;
 use crate::MAC;
 use crate::SIZE;
+use crate::TOO_SHORT;
 use crate::UNREAD;
 use crate::has_its_mac;
 use crate::is_allowed;
@@ -14,7 +15,7 @@ ghost use lib.ListN.{length, getD};
 ghost use Rattle.prelude.specs.Parts.{put};
 ghost use Rattle.prelude.specs.Choice.{if_then_else_};
 ghost use Rattle.settings.specs.Record.{settingsIn, withSettings};
-ghost use Rattle.settings.specs.Enable.{answered, longForm, shortFormAnswered, longFormAnswered, receiveEnabled};
+ghost use Rattle.settings.specs.Enable.{numberOf, answered, longForm, shortFormAnswered, longFormAnswered, receiveEnabled};
 
 // What became of a Receive Enable, with the answer numbers.
 pub enum Enabled {
@@ -118,5 +119,19 @@ fn put_if(is_given: bool, settings: &mut [u8], at: usize, piece: &[u8])
 {
     if is_given {
         bytes::copy(piece, &mut settings[at..]);
+    }
+}
+
+// The answer number.
+pub fn number(enabled: Enabled) -> u32
+    ensures { λ r. ⌜ r ≡ numberOf enabled ⌝ }
+{
+    match enabled {
+        Enabled::TooShort => TOO_SHORT,
+        Enabled::NotSound => 13,
+        Enabled::BadLength => 8,
+        Enabled::BadControl => 9,
+        Enabled::NoMac => 10,
+        Enabled::Taken => 11,
     }
 }

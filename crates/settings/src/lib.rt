@@ -5,6 +5,7 @@
 mod enable;
 
 pub use enable::Enabled;
+pub use enable::number;
 pub use enable::receive_enable;
 ghost use mathlib.Core.Path.{_≡_};
 ghost use Rattle.settings.specs.Record.{allowed, hasItsMac, sound};
@@ -25,7 +26,7 @@ pub const UNREAD: usize = 12;
 
 const DONE: u32 = 0;
 
-const TOO_SHORT: u32 = 12;
+pub(crate) const TOO_SHORT: u32 = 12;
 
 const FRESH: [u8; SIZE] = [0x40, 0, 0, 0, 0, 0, 0, 0, 0, 0, 0, 0, 0, 0, 0];
 

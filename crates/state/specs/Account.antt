@@ -78,9 +78,17 @@ freshAccount maximum =
       total = 0;
     }
 
--- a call that has no number of its own answers 0 when done; 16 "fragment maximum not 1 to 240": "fresh state for 240 comes back"
+-- a call that has no number of its own answers 0 when done
+abbrev pub done : ℕ
+done = 0
+
+-- 16: "fragment maximum not 1 to 240"
+abbrev pub badMaximum : ℕ
+badMaximum = 16
+
+-- "fresh state for 240 comes back"
 unfoldable pub made : ℕ → Made
 made maximum =
-    if ltb maximum 1 then record { answer = 16; account = freshAccount maxMaximum } else
-    if ltb maxMaximum maximum then record { answer = 16; account = freshAccount maxMaximum } else
-    record { answer = 0; account = freshAccount maximum }
+    if ltb maximum 1 then record { answer = badMaximum; account = freshAccount maxMaximum } else
+    if ltb maxMaximum maximum then record { answer = badMaximum; account = freshAccount maxMaximum } else
+    record { answer = done; account = freshAccount maximum }

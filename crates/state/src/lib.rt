@@ -1,15 +1,14 @@
 // The account: what became of every transaction, in a grid of nine fates by packets, fragments and
 // bytes, beside the packet that is open.
 ghost use mathlib.Core.Path.{_≡_};
-ghost use Rattle.state.specs.Account.{freshAccount, made};
+ghost use Rattle.state.specs.Account.{rows, freshAccount, made};
 ghost use Rattle.state.specs.Sound.{countsSound, rowSound, rowsSound, singlesSound, sumHolds, sound};
 
 // Any numbers may be handed in; is_sound tells those that an account can hold.
 pub struct Account {
     // The most data bytes of a fragment, 1 to MAX_MAXIMUM.
     pub maximum: u64,
-    // Packets, fragments and bytes of each fate: sent, superseded, flushed, broken, over, short,
-    // linkdown, aborted, badlength.
+    // Packets, fragments and bytes of each fate, in the rows SENT to BADLENGTH.
     pub grid: [u64; 27],
     // The packet that is open, if it has a fragment.
     pub open_fragments: u64,
@@ -32,17 +31,32 @@ pub const LIMIT: u64 = 4294967295;
 
 pub const MAX_MAXIMUM: u64 = 240;
 
-const DONE: u32 = 0;
+// Rows of the grid.
+pub const SENT: usize = 0;
 
-const BAD_MAXIMUM: u32 = 16;
+pub const SUPERSEDED: usize = 1;
+
+pub const FLUSHED: usize = 2;
+
+pub const BROKEN: usize = 3;
+
+pub const OVER: usize = 4;
+
+pub const SHORT: usize = 5;
+
+pub const LINKDOWN: usize = 6;
+
+pub const ABORTED: usize = 7;
+
+pub const BADLENGTH: usize = 8;
 
 const ROWS: usize = 9;
 
 const COLUMNS: usize = 3;
 
-const ABORTED: usize = 7;
+const DONE: u32 = 0;
 
-const BADLENGTH: usize = 8;
+const BAD_MAXIMUM: u32 = 16;
 
 // A fresh account for fragments of at most `maximum` data bytes.
 pub fn fresh(maximum: u32) -> Made
@@ -123,7 +137,7 @@ fn are_counts_sound(maximum: u64, total: u64) -> bool
 }
 
 fn are_rows_sound(grid: [u64; 27]) -> bool
-    ensures { λ r. ⌜ r ≡ rowsSound 9 grid ⌝ }
+    ensures { λ r. ⌜ r ≡ rowsSound rows grid ⌝ }
 {
     let mut row: usize = 0;
     while row < ROWS {

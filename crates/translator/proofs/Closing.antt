@@ -20,11 +20,11 @@ use Rattle.translator.specs.declared.command.Class.{Class}
 use Rattle.translator.specs.Command.{commands, classIn, hasBothFlags}
 use Rattle.translator.specs.Counting.{ended, single, grown, finished, commanded}
 use Rattle.translator.specs.Outcome.{numberOf}
-use Rattle.translator.specs.Transact.{Stored, Done, dropped, begun, lastJudged, joined, bySequence, fragment, enable, unknown, byClass, transacted, sequenceOf, with}
+use Rattle.translator.specs.Transact.{Stored, Done, badLength, begun, lastJudged, joined, bySequence, fragment, enable, unknown, byClass, transacted, sequenceOf, with}
 use Rattle.translator.specs.Properties.{Formed, noRow, fragmentCloses, closedRow, SameRow, ClosedIn, EveryClosing}
 use Rattle.translator.proofs.Added.{Cells, added-here}
 use Rattle.translator.proofs.Frame.{single-same, finished-same, grown-same, commanded-same, ended-formed, NotBad, closes-unless-bad}
-use Rattle.translator.proofs.Sequences.{aborted-not-first}
+use Rattle.translator.proofs.Sequences.{first-not-aborted}
 use Rattle.translator.specs.declared.Cause.the-variants as cause
 use Rattle.translator.specs.declared.Outcome.the-variants as outcome
 use Rattle.translator.specs.declared.Sequence.the-variants as sequence
@@ -56,8 +56,8 @@ module _ (a : Account) (formed : Formed a) (is-open : isOpen a ≡ true) where
       let row-is : fragmentCloses false o ≡ noRow = closes-unless-bad false o n ∙ if-false _ _ _ refl in
       rw row-is (λ l. absurd (omega arith))
 
-  breaking : (first : Bool) → Closes (fragmentCloses first) (with (single badlength 0 (ended broken a)) (outcome.Discarded cause.BadLength))
-  unfolding Closes
+  breaking : (first : Bool) → Closes (fragmentCloses first) (badLength a)
+  unfolding Closes badLength
   breaking first =
       let row-is : fragmentCloses first (outcome.Discarded cause.BadLength) ≡ broken = if-true _ _ _ refl in
       rw row-is (λ l. then-closed broken a (ended broken a) _ (ended-closed broken l)
@@ -88,8 +88,8 @@ module _ (a : Account) (formed : Formed a) (is-open : isOpen a ≡ true) where
       P s = Closes (fragmentCloses false) (s .result)
 
   by-sequence-closes : (q : Sequence) (bytes : List ℕ) (first last linkUp : Bool) (store : List ℕ)
-      → sequenceOf first (length bytes) (a .maximum) (a .«open_fragments») (a .«open_bytes») ≡ q → Closes (fragmentCloses first) (bySequence q bytes first last linkUp a store .result)
-  unfolding bySequence dropped joined begun
+      → sequenceOf first (a .«open_fragments») (a .«open_bytes») ≡ q → Closes (fragmentCloses first) (bySequence q bytes first last linkUp a store .result)
+  unfolding bySequence joined begun
   by-sequence-closes (sequence.Joins at) bytes true last linkUp store e =
       rw (if-true {A = Account} true (ended superseded a) a refl)
       (if-cases (λ (s : Stored). Closes (fragmentCloses true) (s .result)) last _ _
@@ -99,14 +99,17 @@ module _ (a : Account) (formed : Formed a) (is-open : isOpen a ≡ true) where
       if-cases (λ (s : Stored). Closes (fragmentCloses false) (s .result)) last _ _
       (λ _. last-closes-nothing (length bytes) linkUp _ (appended store at bytes))
       (λ _. closing-nothing outcome.Taken _ refl)
-  by-sequence-closes sequence.BadLength bytes first last linkUp store e = breaking first
-  by-sequence-closes sequence.Aborted bytes true last linkUp store e = absurd (true≢false (aborted-not-first _ _ _ _ _ e))
+  by-sequence-closes sequence.Aborted bytes true last linkUp store e = absurd (first-not-aborted _ _ e)
   by-sequence-closes sequence.Aborted bytes false last linkUp store e = closing-nothing (outcome.Discarded cause.Aborted) _ refl
 
   fragment-closes : (bytes : List ℕ) (first last linkUp : Bool) (store : List ℕ) → Closes (fragmentCloses first) (fragment bytes first last linkUp a store .result)
   unfolding fragment
   fragment-closes bytes first last linkUp store =
-      by-sequence-closes (sequenceOf first (length bytes) (a .maximum) (a .«open_fragments») (a .«open_bytes»)) bytes first last linkUp store refl
+      if-cases P _ _ _ (λ _. breaking first)
+      (λ _. if-cases P _ _ _ (λ _. breaking first) (λ _. by-sequence-closes (sequenceOf first (a .«open_fragments») (a .«open_bytes»)) bytes first last linkUp store refl))
+    where
+      P : Stored → Type 0
+      P s = Closes (fragmentCloses first) (s .result)
 
   flushing : (isTaken : Bool) → flushed < rows → ClosedIn flushed a (commanded isTaken (ended flushed a))
   flushing isTaken l = then-closed flushed a (ended flushed a) _ (ended-closed flushed l) (commanded-same flushed (ended flushed a) isTaken)

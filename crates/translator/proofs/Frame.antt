@@ -19,7 +19,7 @@ use Rattle.translator.specs.declared.command.Class.{Class}
 use Rattle.translator.specs.Command.{commands, classIn, hasBothFlags}
 use Rattle.translator.specs.Counting.{ended, single, grown, finished, commanded}
 use Rattle.translator.specs.Outcome.{numberOf}
-use Rattle.translator.specs.Transact.{Stored, Done, dropped, begun, lastJudged, joined, bySequence, fragment, enable, unknown, byClass, transacted, sequenceOf, with}
+use Rattle.translator.specs.Transact.{Stored, Done, badLength, begun, lastJudged, joined, bySequence, fragment, enable, unknown, byClass, transacted, sequenceOf, with}
 use Rattle.translator.specs.Properties.{Formed, noRow, ownRow, fragmentCloses, closedRow, SameRow, EveryFrame}
 use Rattle.translator.proofs.Added.{Cells, added-length, added-elsewhere}
 use Rattle.translator.specs.declared.Cause.the-variants as cause
@@ -107,20 +107,28 @@ module _ (row : ℕ) (a : Account) (formed : Formed a) (first : Bool) where
       P : Stored → Type 0
       P s = Frames row a (fragmentCloses first) (s .result)
 
+  bad-length-frames : Frames row a (fragmentCloses first) (badLength a)
+  unfolding badLength
+  bad-length-frames own closed =
+      then-same row a (ended broken a) _ (ended-same row broken a formed (omega arith) (λ e. closed (e ∙ sym (if-true _ _ _ refl))))
+      (single-same row badlength (ended broken a) (ended-formed broken a formed (omega arith)) (omega arith) own 0)
+
   by-sequence-frames : (q : Sequence) (bytes : List ℕ) (last linkUp : Bool) (store : List ℕ) → Frames row a (fragmentCloses first) (bySequence q bytes first last linkUp a store .result)
-  unfolding bySequence dropped joined b
+  unfolding bySequence joined b
   by-sequence-frames (sequence.Joins at) bytes last linkUp store =
       if-cases (λ (s : Stored). Frames row a (fragmentCloses first) (s .result)) last _ _
       (λ _. last-frames (length bytes) linkUp (appended store at bytes))
       (λ _ own closed. then-same row a (begun first a) _ (begun-same row first a formed outcome.Taken refl closed) (grown-same row (length bytes) (begun first a)))
-  by-sequence-frames sequence.BadLength bytes last linkUp store = λ own closed.
-      then-same row a (ended broken a) _ (ended-same row broken a formed (omega arith) (λ e. closed (e ∙ sym (if-true _ _ _ refl))))
-      (single-same row badlength (ended broken a) (ended-formed broken a formed (omega arith)) (omega arith) own 0)
   by-sequence-frames sequence.Aborted bytes last linkUp store = λ own closed. single-same row aborted a formed (omega arith) own (length bytes)
 
   fragment-frames : (bytes : List ℕ) (last linkUp : Bool) (store : List ℕ) → Frames row a (fragmentCloses first) (fragment bytes first last linkUp a store .result)
   unfolding fragment
-  fragment-frames bytes last linkUp store = by-sequence-frames (sequenceOf first (length bytes) (a .maximum) (a .«open_fragments») (a .«open_bytes»)) bytes last linkUp store
+  fragment-frames bytes last linkUp store =
+      if-cases P _ _ _ (λ _. bad-length-frames)
+      (λ _. if-cases P _ _ _ (λ _. bad-length-frames) (λ _. by-sequence-frames (sequenceOf first (a .«open_fragments») (a .«open_bytes»)) bytes last linkUp store))
+    where
+      P : Stored → Type 0
+      P s = Frames row a (fragmentCloses first) (s .result)
 
 module _ (row : ℕ) (a : Account) (formed : Formed a) (command : ℕ) (bytes : List ℕ) (linkUp : Bool) (store settings : List ℕ) where
   flushed-same : (isTaken : Bool) → (row ≡ flushed → ⊥) → SameRow row a (commanded isTaken (ended flushed a))

@@ -9,7 +9,7 @@ use native.Mathlib.Nat.{not-le-of-lt}
 use native.Mathlib.Omega.{arith}
 use lib.Dec.{ltb, eqb}
 use lib.ListN.{length}
-use borrow.Author.Tests.{ltb-true, eqb-false}
+use borrow.Author.Tests.{ltb-true, ltb-false, eqb-false}
 use Rattle.prelude.proofs.Tests.{if-cases}
 use Rattle.packet.specs.Store.{appended}
 use Rattle.settings.proofs.Properties.{every-enable}
@@ -25,11 +25,11 @@ use Rattle.translator.specs.declared.command.Class.{Class}
 use Rattle.translator.specs.Command.{commands, classIn}
 use Rattle.translator.specs.Outcome.{numberOf}
 use Rattle.translator.specs.Counting.{ended, single, grown, finished, commanded}
-use Rattle.translator.specs.Transact.{Stored, Done, done, dropped, begun, lastJudged, joined, bySequence, fragment, enable, unknown, byClass, transacted, sequenceOf, with}
+use Rattle.translator.specs.Transact.{Stored, Done, done, badLength, begun, lastJudged, joined, bySequence, fragment, enable, unknown, byClass, transacted, sequenceOf, with}
 use Rattle.translator.specs.Properties.{Formed, Counts, EveryTransaction}
 use Rattle.translator.proofs.Added.{added-length, same-or-not}
-use Rattle.translator.proofs.Sequences.{joins-size, joins-some, aborted-size}
-use Rattle.translator.proofs.Soundness.{ended-sound, ended-formed, ended-total, single-sound, finished-sound, grown-sound, commanded-sound, within-maximum, not-full}
+use Rattle.translator.proofs.Frame.{ended-formed}
+use Rattle.translator.proofs.Soundness.{ended-sound, ended-total, single-sound, finished-sound, grown-sound, commanded-sound, within-maximum, not-full}
 use Rattle.settings.specs.Record as settings-record
 use Rattle.settings.specs.Enable as settings-enable
 use Rattle.translator.specs.declared.Outcome.the-variants as outcome
@@ -49,10 +49,10 @@ record Ready (a : Account) : Type 0 where
   is-sound : sound a ≡ true
   room : a .total < limit
 
-ended-is-ready : (a : Account) → Ready a → (row : ℕ) → row < 7 → Ready (ended row a)
+ended-is-ready : (a : Account) → Ready a → (row : ℕ) → row < aborted → Ready (ended row a)
 ended-is-ready a r row l =
     record {
-      formed = ended-formed a (r .formed) (r .is-sound) row l;
+      formed = ended-formed row a (r .formed) (omega arith);
       is-sound = ended-sound a (r .formed) (r .is-sound) row l;
       room = rw (ended-total a (r .formed) (r .is-sound) row) (r .room);
     }
@@ -67,7 +67,7 @@ single-counted a r row bytes o below at l small none =
       stays-formed = added-length (a .grid) row 0 1 bytes (r .formed) l;
     }
 
-finished-counted : (a : Account) → Ready a → (row bytes : ℕ) (o : Outcome) → numberOf o < 12 → row < 7 → bytes ≤ maxMaximum → Counted a (with (finished row bytes a) o)
+finished-counted : (a : Account) → Ready a → (row bytes : ℕ) (o : Outcome) → numberOf o < 12 → row < aborted → bytes ≤ maxMaximum → Counted a (with (finished row bytes a) o)
 unfolding finished
 finished-counted a r row bytes o below l small =
     let inGrid : row < rows = omega arith in
@@ -129,20 +129,27 @@ module _ (a : Account) (r : Ready a) (bytes : List ℕ) (first last linkUp : Boo
       (λ _. last-counted b ready (length bytes) linkUp (appended store at bytes) (within-maximum a (length bytes) (r .is-sound) few))
       (λ _. grown-counted b ready (length bytes) some (rw (begun-maximum a first) few)))
 
-  by-sequence-counted : (q : Sequence) → sequenceOf first (length bytes) (a .maximum) (a .«open_fragments») (a .«open_bytes») ≡ q
-      → Counted a (bySequence q bytes first last linkUp a store .result)
-  unfolding bySequence dropped
-  by-sequence-counted (sequence.Joins at) e =
-      joined-counted at (joins-some _ _ _ _ _ at e) (joins-size _ _ _ _ _ at e)
-  by-sequence-counted sequence.BadLength e =
+  bad-length-counted : Counted a (badLength a)
+  unfolding badLength
+  bad-length-counted =
       counted-from a (ended broken a) _ (ended-total a (r .formed) (r .is-sound) broken)
       (single-counted (ended broken a) (ended-is-ready a r broken (omega arith)) badlength 0 _ (omega arith) (omega arith) (omega arith) (omega arith) (λ _. refl))
-  by-sequence-counted sequence.Aborted e =
-      single-counted a r aborted (length bytes) _ (omega arith) (omega arith) (omega arith) (within-maximum a (length bytes) (r .is-sound) (aborted-size _ _ _ _ _ e)) (λ x. absurd (omega arith))
+
+  by-sequence-counted : (q : Sequence) → 1 ≤ length bytes → length bytes ≤ a .maximum → Counted a (bySequence q bytes first last linkUp a store .result)
+  unfolding bySequence
+  by-sequence-counted (sequence.Joins at) some few = joined-counted at some few
+  by-sequence-counted sequence.Aborted some few =
+      single-counted a r aborted (length bytes) _ (omega arith) (omega arith) (omega arith) (within-maximum a (length bytes) (r .is-sound) few) (λ x. absurd (omega arith))
 
   fragment-counted : Counted a (fragment bytes first last linkUp a store .result)
   unfolding fragment
-  fragment-counted = by-sequence-counted (sequenceOf first (length bytes) (a .maximum) (a .«open_fragments») (a .«open_bytes»)) refl
+  fragment-counted =
+      if-cases P _ _ _ (λ _. bad-length-counted)
+      (λ some. if-cases P _ _ _ (λ _. bad-length-counted)
+      (λ few. by-sequence-counted (sequenceOf first (a .«open_fragments») (a .«open_bytes»)) (ltb-false _ _ some) (ltb-false _ _ few)))
+    where
+      P : Stored → Type 0
+      P s = Counted a (s .result)
 
 -- a Receive Enable of a sound record is answered 8 to 11
 enabled-below : (settings bytes : List ℕ) → settings-record.sound settings ≡ true → settings-enable.numberOf (settings-enable.receiveEnabled settings bytes .answer) < 12
@@ -160,7 +167,7 @@ enabled-below settings bytes s =
     P x = settings-enable.numberOf (x .answer) < 12
 
 module _ (a : Account) (r : Ready a) where
-  enable-counted : (bytes settings : List ℕ) → settings-record.sound settings ≡ true → Counted a (enable bytes a settings .result)
+  enable-counted : (bytes settings : List ℕ) → settings-record.sound settings ≡ true → Counted a (enable bytes a settings .answer)
   unfolding enable
   enable-counted bytes settings s =
       counted-from a (ended flushed a) _ (ended-total a (r .formed) (r .is-sound) flushed)

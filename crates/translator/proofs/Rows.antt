@@ -5,17 +5,17 @@ use mathlib.Core.Bool.{true}
 use mathlib.Core.List.{List}
 use mathlib.Core.Path.{_≡_, refl, subst}
 use native.Mathlib.Omega.{arith}
-use lib.ListN.{length, getD}
+use lib.ListN.{length}
 use Rattle.prelude.proofs.Lists.{elements, all-elements}
 use Rattle.state.specs.declared.Account.{Account}
-use Rattle.state.specs.Account.{limit, maxMaximum, packetsIn, fragmentsIn, bytesIn}
+use Rattle.state.specs.Account.{limit, maxMaximum, rows, columns, packetsIn, fragmentsIn, bytesIn}
 use Rattle.state.specs.Sound.{sound}
 use Rattle.state.proofs.Sound.{Bounds, sound-tells, sound-bounds}
 use Rattle.translator.specs.Grid.{rowsOf, flatOf, cell, addedTo}
 use Rattle.translator.specs.Counting.{addTo}
 
 -- what holds of each of the nine rows
-nine : (P : ℕ → Type 0) → P 0 → P 1 → P 2 → P 3 → P 4 → P 5 → P 6 → P 7 → P 8 → (row : ℕ) → row < 9 → P row
+nine : (P : ℕ → Type 0) → P 0 → P 1 → P 2 → P 3 → P 4 → P 5 → P 6 → P 7 → P 8 → (row : ℕ) → row < rows → P row
 nine P p0 p1 p2 p3 p4 p5 p6 p7 p8 zero h = p0
 nine P p0 p1 p2 p3 p4 p5 p6 p7 p8 (suc zero) h = p1
 nine P p0 p1 p2 p3 p4 p5 p6 p7 p8 (suc (suc zero)) h = p2
@@ -28,13 +28,13 @@ nine P p0 p1 p2 p3 p4 p5 p6 p7 p8 (suc (suc (suc (suc (suc (suc (suc (suc zero))
 nine P p0 p1 p2 p3 p4 p5 p6 p7 p8 (suc (suc (suc (suc (suc (suc (suc (suc (suc k))))))))) h = absurd (omega arith)
 
 -- a cell of the rows is one of the list
-pub cell-is : (grid : List ℕ) (row : ℕ) → row < 9
-    → (cell (rowsOf grid) row 0 ≡ getD grid (row * 3) 0) × (cell (rowsOf grid) row 1 ≡ getD grid (row * 3 + 1) 0) × (cell (rowsOf grid) row 2 ≡ getD grid (row * 3 + 2) 0)
+pub cell-is : (grid : List ℕ) (row : ℕ) → row < rows
+    → (cell (rowsOf grid) row 0 ≡ packetsIn row grid) × (cell (rowsOf grid) row 1 ≡ fragmentsIn row grid) × (cell (rowsOf grid) row 2 ≡ bytesIn row grid)
 cell-is grid =
-    nine (λ (row : ℕ). (cell (rowsOf grid) row 0 ≡ getD grid (row * 3) 0) × (cell (rowsOf grid) row 1 ≡ getD grid (row * 3 + 1) 0) × (cell (rowsOf grid) row 2 ≡ getD grid (row * 3 + 2) 0))
+    nine (λ (row : ℕ). (cell (rowsOf grid) row 0 ≡ packetsIn row grid) × (cell (rowsOf grid) row 1 ≡ fragmentsIn row grid) × (cell (rowsOf grid) row 2 ≡ bytesIn row grid))
     (refl, refl, refl) (refl, refl, refl) (refl, refl, refl) (refl, refl, refl) (refl, refl, refl) (refl, refl, refl) (refl, refl, refl) (refl, refl, refl) (refl, refl, refl)
 
-pub rows-added : (grid : List ℕ) (row packets fragments bytes : ℕ) → length grid ≡ 27 → row < 9
+pub rows-added : (grid : List ℕ) (row packets fragments bytes : ℕ) → length grid ≡ rows * columns → row < rows
     → flatOf (addedTo (rowsOf grid) row packets fragments bytes) ≡ addTo row packets fragments bytes grid
 unfolding addTo
 rows-added grid row packets fragments bytes e l =
@@ -42,8 +42,8 @@ rows-added grid row packets fragments bytes e l =
     (nine (λ (r : ℕ). flatOf (addedTo (rowsOf grid) r packets fragments bytes) ≡ addTo r packets fragments bytes (elements 27 0 grid)) refl refl refl refl refl refl refl refl refl row l)
 
 -- a row of a sound account has room for a packet
-pub row-fits : (a : Account) → sound a ≡ true → (row packets fragments bytes : ℕ) → row < 9 → packets ≤ 1 → fragments ≤ limit + 1 → bytes ≤ maxMaximum * (limit + 1)
-    → (row < 9) × (packetsIn row (a .grid) + packets < 2 ^ 64) × (fragmentsIn row (a .grid) + fragments < 2 ^ 64) × (bytesIn row (a .grid) + bytes < 2 ^ 64)
+pub row-fits : (a : Account) → sound a ≡ true → (row packets fragments bytes : ℕ) → row < rows → packets ≤ 1 → fragments ≤ limit + 1 → bytes ≤ maxMaximum * (limit + 1)
+    → (row < rows) × (packetsIn row (a .grid) + packets < 2 ^ 64) × (fragmentsIn row (a .grid) + fragments < 2 ^ 64) × (bytesIn row (a .grid) + bytes < 2 ^ 64)
 row-fits a s row packets fragments bytes l p f b =
     let bounds : Bounds a = sound-bounds a (sound-tells a s) in
     let inRow : _ = bounds .fragments row l in

@@ -18,7 +18,7 @@ use Rattle.state.proofs.Sound.{Sound, Bounds, sound-tells, sound-if, sound-boun
 use Rattle.translator.specs.Counting.{addTo, recounted, ended, single, grown, finished, commanded}
 use Rattle.translator.specs.Transact.{begun}
 use Rattle.translator.specs.Properties.{Formed}
-use Rattle.translator.proofs.Added.{added-length, added-fragments, added-rows-sound, added-singles-sound}
+use Rattle.translator.proofs.Added.{added-fragments, added-rows-sound, added-singles-sound}
 
 -- what is added to a row, and the counts afterwards
 record Adds (a : Account) (row packets fragments bytes openFragments openBytes total : ℕ) : Type 0 where
@@ -52,7 +52,7 @@ module _ (a : Account) (formed : Formed a) (h : sound a ≡ true) where
   bounds : Bounds a
   bounds = sound-bounds a (sound-tells a h)
 
-  pub ended-sound : (row : ℕ) → row < 7 → sound (ended row a) ≡ true
+  pub ended-sound : (row : ℕ) → row < aborted → sound (ended row a) ≡ true
   unfolding ended
   ended-sound row l =
       if-cases (λ (b : Account). sound b ≡ true) _ _ _
@@ -92,7 +92,7 @@ module _ (a : Account) (formed : Formed a) (h : sound a ≡ true) where
         bytes-most = s .bytes-most;
       })
 
-  pub finished-sound : (row bytes : ℕ) → a .total < limit → row < 7 → bytes ≤ maxMaximum → sound (finished row bytes a) ≡ true
+  pub finished-sound : (row bytes : ℕ) → a .total < limit → row < aborted → bytes ≤ maxMaximum → sound (finished row bytes a) ≡ true
   unfolding finished
   finished-sound row bytes less l small =
       let s : Sound a = sound-tells a h in
@@ -147,18 +147,12 @@ module _ (a : Account) (formed : Formed a) (h : sound a ≡ true) where
   commanded-sound true less = one-command-more (a .taken + 1) (a .refused) (omega arith) less
   commanded-sound false less = one-command-more (a .taken) (a .refused + 1) (omega arith) less
 
-  pub ended-formed : (row : ℕ) → row < 7 → Formed (ended row a)
-  unfolding ended
-  ended-formed row l =
-      let inGrid : row < rows = omega arith in
-      if-cases Formed _ _ _ (λ _. added-length (a .grid) row 1 (a .«open_fragments») (a .«open_bytes») formed inGrid) (λ _. formed)
-
   pub ended-total : (row : ℕ) → ended row a .total ≡ a .total
   unfolding ended
   ended-total row = if-cases (λ (b : Account). b .total ≡ a .total) _ _ _ (λ _. refl) (λ _. refl)
 
 -- what the next count asks of an account whose open packet has ended
-pub ended-ready : (a : Account) → Formed a → sound a ≡ true → a .total < limit → (row : ℕ) → row < 7 → (sound (ended row a) ≡ true) × (ended row a .total < limit)
+pub ended-ready : (a : Account) → Formed a → sound a ≡ true → a .total < limit → (row : ℕ) → row < aborted → (sound (ended row a) ≡ true) × (ended row a .total < limit)
 ended-ready a formed h less row l = (ended-sound a formed h row l, rw (ended-total a formed h row) less)
 
 pub begun-ready : (a : Account) → Formed a → sound a ≡ true → a .total < limit → (first : Bool) → (sound (begun first a) ≡ true) × (begun first a .total < limit)

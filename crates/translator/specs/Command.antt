@@ -9,7 +9,7 @@ use Rattle.translator.specs.declared.command.Class.{Class}
 use Rattle.translator.specs.declared.command.Class.the-variants.{First, Middle, Last, Whole, Enable, Unknown}
 use Rattle.translator.specs.declared.command.Entry.{Entry}
 
--- the table of commands: first fragment, middle fragment, last fragment, whole packet in one fragment, Receive Enable; any other is unknown
+-- first, middle and last fragment, a whole packet in one fragment, and Receive Enable; any other command is unknown
 abbrev pub commands : List Entry
 commands =
     record { command = 0x84; class = First }

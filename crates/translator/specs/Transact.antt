@@ -9,9 +9,9 @@ use Rattle.packet.specs.Store.{maxPacket, appended, filled, sentLength}
 use Rattle.settings.specs.Record as settings-record
 use Rattle.settings.specs.declared.enable.Enabled.{Enabled}
 use Rattle.settings.specs.declared.enable.Enabled.the-variants as enabled
-use Rattle.settings.specs.Enable.{receiveEnabled}
+use Rattle.settings.specs.Enable.{numberOf, Answered, answered, receiveEnabled}
 use Rattle.state.specs.declared.Account.{Account}
-use Rattle.state.specs.Account as grid
+use Rattle.state.specs.Account.{limit, sent, superseded, flushed, broken, over, short, linkdown, aborted, badlength}
 use Rattle.state.specs.Sound.{sound, isOpen}
 use Rattle.translator.specs.declared.Cause.the-variants as cause
 use Rattle.translator.specs.declared.Outcome.{Outcome}
@@ -32,14 +32,6 @@ pub record Stored : Type 0 where
 abbrev pub stored : Transacted → List ℕ → Stored
 stored result store = record { result = result; store = store }
 
--- account and outcome, and what is left in the settings
-pub record Kept : Type 0 where
-  pub result : Transacted
-  pub settings : List ℕ
-
-abbrev pub kept : Transacted → List ℕ → Kept
-kept result settings = record { result = result; settings = settings }
-
 -- account and outcome, and what is left in both
 pub record Done : Type 0 where
   pub result : Transacted
@@ -56,33 +48,29 @@ with account o = record { account = account; outcome = o }
 abbrev pub minPacket : ℕ
 minPacket = 17
 
--- "3 comes before the sequence rule"; "None open and First: opened", "Open and not First: appended"; with the bytes so far
-unfoldable pub sequenceOf : Bool → ℕ → ℕ → ℕ → ℕ → Sequence
-sequenceOf first size maximum openFragments openBytes =
-    if ltb size 1 then sequence.BadLength else
-    if ltb maximum size then sequence.BadLength else
+-- 3: "A fragment answered 3 wasn't received correctly, so the packet can't be sent: it is broken (house)."
+unfoldable pub badLength : Account → Transacted
+badLength a = with (single badlength 0 (ended broken a)) (outcome.Discarded cause.BadLength)
+
+-- "None open and First: opened", "Open and not First: appended", with the bytes so far; "not First, none open: abort status"
+unfoldable pub sequenceOf : Bool → ℕ → ℕ → Sequence
+sequenceOf first openFragments openBytes =
     if first then sequence.Joins 0 else
     if ltb 0 openFragments then sequence.Joins openBytes else
     sequence.Aborted
 
--- "A fragment answered 3 wasn't received correctly, so the packet can't be sent: it is broken (house)."; "not First, none open: abort status". A fragment that joins is never dropped
-unfoldable pub dropped : Sequence → ℕ → Account → Transacted
-dropped sequence.BadLength size a = with (single grid.badlength 0 (ended grid.broken a)) (outcome.Discarded cause.BadLength)
-dropped sequence.Aborted size a = with (single grid.aborted size a) (outcome.Discarded cause.Aborted)
-dropped (sequence.Joins at) size a = with a outcome.Taken
-
 -- "Open and First: the open packet is superseded, the current fragment starts a new one, no abort."
 unfoldable pub begun : Bool → Account → Account
-begun first a = if first then ended grid.superseded a else a
+begun first a = if first then ended superseded a else a
 
 -- a Last: 4 before 5 before 6, else sent, with the fill
 unfoldable pub lastJudged : ℕ → Bool → Account → List ℕ → Stored
 lastJudged size linkUp a store =
-    if ltb maxPacket (a .«open_bytes» + size) then stored (with (finished grid.over size a) (outcome.Discarded cause.Over)) store else
-    if ltb (a .«open_bytes» + size) minPacket then stored (with (finished grid.short size a) (outcome.Discarded cause.Short)) store else
+    if ltb maxPacket (a .«open_bytes» + size) then stored (with (finished over size a) (outcome.Discarded cause.Over)) store else
+    if ltb (a .«open_bytes» + size) minPacket then stored (with (finished short size a) (outcome.Discarded cause.Short)) store else
     if linkUp then
-    stored (with (finished grid.sent size a) (outcome.Sent (sentLength (a .«open_bytes» + size)))) (filled store (a .«open_bytes» + size))
-    else stored (with (finished grid.linkdown size a) (outcome.Discarded cause.LinkDown)) store
+    stored (with (finished sent size a) (outcome.Sent (sentLength (a .«open_bytes» + size)))) (filled store (a .«open_bytes» + size))
+    else stored (with (finished linkdown size a) (outcome.Discarded cause.LinkDown)) store
 
 -- a fragment that joins a packet of so many bytes, which it follows in the store
 unfoldable pub joined : ℕ → List ℕ → Bool → Bool → Account → List ℕ → Stored
@@ -92,47 +80,42 @@ joined at bytes last linkUp a store =
 
 unfoldable pub bySequence : Sequence → List ℕ → Bool → Bool → Bool → Account → List ℕ → Stored
 bySequence (sequence.Joins at) bytes first last linkUp a store = joined at bytes last linkUp (begun first a) store
-bySequence sequence.BadLength bytes first last linkUp a store = stored (dropped sequence.BadLength (length bytes) a) store
-bySequence sequence.Aborted bytes first last linkUp a store = stored (dropped sequence.Aborted (length bytes) a) store
+bySequence sequence.Aborted bytes first last linkUp a store = stored (with (single aborted (length bytes) a) (outcome.Discarded cause.Aborted)) store
 
+-- "fragment of 0 bytes or above the maximum"; "3 comes before the sequence rule"
 unfoldable pub fragment : List ℕ → Bool → Bool → Bool → Account → List ℕ → Stored
-fragment bytes first last linkUp a =
-    bySequence (sequenceOf first (length bytes) (a .maximum) (a .«open_fragments») (a .«open_bytes»)) bytes first last linkUp a
+fragment bytes first last linkUp a store =
+    if ltb (length bytes) 1 then stored (badLength a) store else
+    if ltb (a .maximum) (length bytes) then stored (badLength a) store else
+    bySequence (sequenceOf first (a .«open_fragments») (a .«open_bytes»)) bytes first last linkUp a store
 
+-- 11
 abbrev pub isTaken : Enabled → Bool
-isTaken enabled.TooShort = false
-isTaken enabled.NotSound = false
-isTaken enabled.BadLength = false
-isTaken enabled.BadControl = false
-isTaken enabled.NoMac = false
-isTaken enabled.Taken = true
+isTaken e = eqb (numberOf e) (numberOf enabled.Taken)
 
 -- "Flush: any command with both F and L set, other than 0xC4, ends the open packet, even when it is then answered 7, 8, 9 or 10."
-unfoldable pub enable : List ℕ → Account → List ℕ → Kept
+unfoldable pub enable : List ℕ → Account → List ℕ → Answered Transacted
 enable bytes a settings =
-    kept
-    (with (commanded (isTaken (receiveEnabled settings bytes .answer)) (ended grid.flushed a)) (outcome.Enable (receiveEnabled settings bytes .answer)))
+    answered
+    (with (commanded (isTaken (receiveEnabled settings bytes .answer)) (ended flushed a)) (outcome.Enable (receiveEnabled settings bytes .answer)))
     (receiveEnabled settings bytes .settings)
 
 -- "An unknown command without both flags ends nothing."
 unfoldable pub unknown : ℕ → Account → Transacted
 unknown command a =
-    if hasBothFlags command then with (commanded false (ended grid.flushed a)) outcome.Unknown else
+    if hasBothFlags command then with (commanded false (ended flushed a)) outcome.Unknown else
     with (commanded false a) outcome.Unknown
 
--- a fragment leaves the settings, a command the store
+-- a fragment leaves the settings
 abbrev pub inStore : Stored → List ℕ → Done
 inStore s settings = done (s .result) (s .store) settings
-
-abbrev pub inSettings : Kept → List ℕ → Done
-inSettings k store = done (k .result) store (k .settings)
 
 unfoldable pub byClass : Class → ℕ → List ℕ → Bool → Account → List ℕ → List ℕ → Done
 byClass class.First command bytes linkUp a store settings = inStore (fragment bytes true false linkUp a store) settings
 byClass class.Middle command bytes linkUp a store settings = inStore (fragment bytes false false linkUp a store) settings
 byClass class.Last command bytes linkUp a store settings = inStore (fragment bytes false true linkUp a store) settings
 byClass class.Whole command bytes linkUp a store settings = inStore (fragment bytes true true linkUp a store) settings
-byClass class.Enable command bytes linkUp a store settings = inSettings (enable bytes a settings) store
+byClass class.Enable command bytes linkUp a store settings = done (enable bytes a settings .answer) store (enable bytes a settings .settings)
 byClass class.Unknown command bytes linkUp a store settings = done (unknown command a) store settings
 
 -- "Order: 12, 13, 14; then by command."
@@ -142,7 +125,7 @@ transacted a store settings command bytes linkUp =
     if ltb (length settings) settings-record.size then done (with a outcome.NoRoom) store settings else
     if sound a then
     (if settings-record.sound settings then
-    (if eqb (a .total) grid.limit then done (with a outcome.Full) store settings else
+    (if eqb (a .total) limit then done (with a outcome.Full) store settings else
     byClass (classIn commands command) command bytes linkUp a store settings)
     else done (with a outcome.NotSound) store settings)
     else done (with a outcome.NotSound) store settings

@@ -1,37 +1,19 @@
 // How a transaction is counted. Each function asks for a sound account, and those that count a
-// transaction for one that is not full; a fate is named in this crate alone.
+// transaction for one that is not full. Packets have the rows before ABORTED; a fate is named in
+// this crate alone.
 use state::Account;
 ghost use mathlib.Core.Bool.{true};
 ghost use mathlib.Core.List.{[]};
 ghost use mathlib.Core.Path.{_≡_};
-ghost use Prim.Native.Nat.{_+_, _*_, _<_, _≤_, _^_};
-ghost use lib.ListN.{getD};
+ghost use Prim.Native.Nat.{_+_, _<_, _≤_, _^_};
+ghost use Rattle.state.specs.Account.{limit, maxMaximum, rows, aborted, packetsIn, fragmentsIn, bytesIn};
 ghost use Rattle.state.specs.Sound.{sound};
 ghost use Rattle.translator.specs.Grid.{rowsOf, flatOf, addedTo, cell};
 ghost use Rattle.translator.specs.Counting.{addTo, commanded as Counting·commanded, ended as Counting·ended, finished as Counting·finished, grown as Counting·grown, recounted as Counting·recounted, single as Counting·single};
 
-// Rows of the grid.
-pub(crate) const SENT: usize = 0;
-
-pub(crate) const SUPERSEDED: usize = 1;
-
-pub(crate) const FLUSHED: usize = 2;
-
-pub(crate) const BROKEN: usize = 3;
-
-pub(crate) const OVER: usize = 4;
-
-pub(crate) const SHORT: usize = 5;
-
-pub(crate) const LINKDOWN: usize = 6;
-
-pub(crate) const ABORTED: usize = 7;
-
-pub(crate) const BADLENGTH: usize = 8;
-
 // The open packet, if there is one, ends in the row.
 pub(crate) fn ended(account: Account, row: usize) -> Account
-    requires { ⌜ (sound account ≡ true) × (row < 7) ⌝ }
+    requires { ⌜ (sound account ≡ true) × (row < aborted) ⌝ }
     ensures { λ r. ⌜ r ≡ Counting·ended row account ⌝ }
 {
     let fragments = account.open_fragments;
@@ -45,7 +27,7 @@ pub(crate) fn ended(account: Account, row: usize) -> Account
 
 // A fragment of no packet is counted in the row.
 pub(crate) fn single(account: Account, row: usize, bytes: u64) -> Account
-    requires { ⌜ (sound account ≡ true) × (account .total < 4294967295) × (row < 9) × (bytes ≤ 240) ⌝ }
+    requires { ⌜ (sound account ≡ true) × (account .total < limit) × (row < rows) × (bytes ≤ maxMaximum) ⌝ }
     ensures { λ r. ⌜ r ≡ Counting·single row bytes account ⌝ }
 {
     let grid = account.grid;
@@ -61,7 +43,7 @@ pub(crate) fn single(account: Account, row: usize, bytes: u64) -> Account
 
 // A fragment is taken, and its packet stays open.
 pub(crate) fn grown(account: Account, bytes: u64) -> Account
-    requires { ⌜ (sound account ≡ true) × (account .total < 4294967295) × (bytes ≤ 240) ⌝ }
+    requires { ⌜ (sound account ≡ true) × (account .total < limit) × (bytes ≤ maxMaximum) ⌝ }
     ensures { λ r. ⌜ r ≡ Counting·grown bytes account ⌝ }
 {
     let grid = account.grid;
@@ -77,7 +59,7 @@ pub(crate) fn grown(account: Account, bytes: u64) -> Account
 
 // A Last is taken, and its packet ends in the row.
 pub(crate) fn finished(account: Account, row: usize, bytes: u64) -> Account
-    requires { ⌜ (sound account ≡ true) × (account .total < 4294967295) × (row < 7) × (bytes ≤ 240) ⌝ }
+    requires { ⌜ (sound account ≡ true) × (account .total < limit) × (row < aborted) × (bytes ≤ maxMaximum) ⌝ }
     ensures { λ r. ⌜ r ≡ Counting·finished row bytes account ⌝ }
 {
     let grid = account.grid;
@@ -88,7 +70,7 @@ pub(crate) fn finished(account: Account, row: usize, bytes: u64) -> Account
 
 // A command is taken or refused.
 pub(crate) fn commanded(account: Account, is_taken: bool) -> Account
-    requires { ⌜ (sound account ≡ true) × (account .total < 4294967295) ⌝ }
+    requires { ⌜ (sound account ≡ true) × (account .total < limit) ⌝ }
     ensures { λ r. ⌜ r ≡ Counting·commanded «is_taken» account ⌝ }
 {
     let mut after = account;
@@ -122,24 +104,24 @@ fn recounted(
 }
 
 fn add_to(grid: [u64; 27], row: usize, packets: u64, fragments: u64, bytes: u64) -> [u64; 27]
-    requires { ⌜ (row < 9) × (getD grid (row * 3) 0 + packets < 2 ^ 64) × (getD grid (row * 3 + 1) 0 + fragments < 2 ^ 64) × (getD grid (row * 3 + 2) 0 + bytes < 2 ^ 64) ⌝ }
+    requires { ⌜ (row < rows) × (packetsIn row grid + packets < 2 ^ 64) × (fragmentsIn row grid + fragments < 2 ^ 64) × (bytesIn row grid + bytes < 2 ^ 64) ⌝ }
     ensures { λ r. ⌜ r ≡ addTo row packets fragments bytes grid ⌝ }
 {
     flat_of(added_to(rows_of(grid), row, packets, fragments, bytes))
 }
 
 fn added_to(
-    rows: [[u64; 3]; 9],
+    before: [[u64; 3]; 9],
     row: usize,
     packets: u64,
     fragments: u64,
     bytes: u64,
 ) -> [[u64; 3]; 9]
-    requires { ⌜ (row < 9) × (cell rows row 0 + packets < 2 ^ 64) × (cell rows row 1 + fragments < 2 ^ 64) × (cell rows row 2 + bytes < 2 ^ 64) ⌝ }
-    ensures { λ r. ⌜ r ≡ addedTo rows row packets fragments bytes ⌝ }
+    requires { ⌜ (row < rows) × (cell before row 0 + packets < 2 ^ 64) × (cell before row 1 + fragments < 2 ^ 64) × (cell before row 2 + bytes < 2 ^ 64) ⌝ }
+    ensures { λ r. ⌜ r ≡ addedTo before row packets fragments bytes ⌝ }
 {
-    let mut after = rows;
-    let cells = rows[row];
+    let mut after = before;
+    let cells = before[row];
     after[row] = [cells[0] + packets, cells[1] + fragments, cells[2] + bytes];
     after
 }

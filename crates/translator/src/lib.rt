@@ -10,12 +10,13 @@ ghost use mathlib.Core.Bool.{true};
 ghost use mathlib.Core.Path.{_≡_};
 ghost use Prim.Native.Nat.{_≤_, _<_};
 ghost use lib.ListN.{length};
+ghost use Rattle.settings.specs.Enable.{answered};
+ghost use Rattle.state.specs.Account.{limit, maxMaximum};
 ghost use Rattle.state.specs.Sound.{sound};
-ghost use Rattle.settings.specs.Enable.{numberOf as Enable·numberOf};
 ghost use Rattle.translator.specs.Command.{commands, classIn};
 ghost use Rattle.translator.specs.Outcome.{causeNumber, numberOf, sentLengthOf};
-ghost use Rattle.translator.specs.Transact.{kept, stored, done, sequenceOf, isTaken, byClass, transacted};
-ghost use Rattle.translator.specs.Transact.{begun as Transact·begun, dropped as Transact·dropped, enable as Transact·enable, fragment as Transact·fragment, joined as Transact·joined, lastJudged, unknown as Transact·unknown};
+ghost use Rattle.translator.specs.Transact.{stored, done, badLength, sequenceOf, isTaken, byClass, transacted};
+ghost use Rattle.translator.specs.Transact.{begun as Transact·begun, enable as Transact·enable, fragment as Transact·fragment, joined as Transact·joined, lastJudged, unknown as Transact·unknown};
 
 // Why a fragment or its packet was not sent.
 pub enum Cause {
@@ -56,12 +57,11 @@ pub struct Transacted {
     pub outcome: Outcome,
 }
 
-// What a fragment is to the open packet.
+// What a fragment of an allowed length is to the open packet.
 enum Sequence {
-    BadLength,
-    Aborted,
     // It joins a packet of so many bytes.
     Joins(u64),
+    Aborted,
 }
 
 const MIN_PACKET: u64 = 17;
@@ -120,7 +120,7 @@ fn step(
     bytes: &[u8],
     link_up: bool,
 ) -> Transacted
-    requires { ⌜ (sound account ≡ true) × (account .total < 4294967295) ⌝ }
+    requires { ⌜ (sound account ≡ true) × (account .total < limit) ⌝ }
     ensures { λ r. ⌜ done r (now (store .exit)) (now (settings .exit)) ≡ byClass (classIn commands command) command (now (bytes .entry)) «link_up» account (now (store .entry)) (now (settings .entry)) ⌝ }
 {
     match command::class_of(command) {
@@ -141,46 +141,41 @@ fn fragment(
     last: bool,
     link_up: bool,
 ) -> Transacted
-    requires { ⌜ (sound account ≡ true) × (account .total < 4294967295) ⌝ }
+    requires { ⌜ (sound account ≡ true) × (account .total < limit) ⌝ }
     ensures { λ r. ⌜ stored r (now (store .exit)) ≡ Transact·fragment (now (bytes .entry)) first last «link_up» account (now (store .entry)) ⌝ }
 {
     let size = bytes.len() as u64;
-    let sequence = sequence_of(
-        first,
-        size,
-        account.maximum,
-        account.open_fragments,
-        account.open_bytes,
-    );
-    let Sequence::Joins(at) = sequence else {
-        return dropped(account, sequence, size);
-    };
-    packet::append(store, at, bytes);
-    let begun = begun(account, first);
-    if last {
-        return last_judged(begun, store, size, link_up);
+    if size < 1 {
+        return bad_length(account);
     }
+    if account.maximum < size {
+        return bad_length(account);
+    }
+    let sequence = sequence_of(first, account.open_fragments, account.open_bytes);
+    let Sequence::Joins(at) = sequence else {
+        return Transacted {
+            account: counting::single(account, state::ABORTED, size),
+            outcome: Outcome::Discarded(Cause::Aborted),
+        };
+    };
+    joined(begun(account, first), store, at, bytes, last, link_up)
+}
+
+// A fragment of a bad length breaks the open packet.
+fn bad_length(account: Account) -> Transacted
+    requires { ⌜ (sound account ≡ true) × (account .total < limit) ⌝ }
+    ensures { λ r. ⌜ r ≡ badLength account ⌝ }
+{
+    let broken = counting::ended(account, state::BROKEN);
     Transacted {
-        account: counting::grown(begun, size),
-        outcome: Outcome::Taken,
+        account: counting::single(broken, state::BADLENGTH, 0),
+        outcome: Outcome::Discarded(Cause::BadLength),
     }
 }
 
-fn sequence_of(
-    first: bool,
-    size: u64,
-    maximum: u64,
-    open_fragments: u64,
-    open_bytes: u64,
-) -> Sequence
-    ensures { λ r. ⌜ r ≡ sequenceOf first size maximum «open_fragments» «open_bytes» ⌝ }
+fn sequence_of(first: bool, open_fragments: u64, open_bytes: u64) -> Sequence
+    ensures { λ r. ⌜ r ≡ sequenceOf first «open_fragments» «open_bytes» ⌝ }
 {
-    if size < 1 {
-        return Sequence::BadLength;
-    }
-    if maximum < size {
-        return Sequence::BadLength;
-    }
     if first {
         return Sequence::Joins(0);
     }
@@ -190,78 +185,77 @@ fn sequence_of(
     Sequence::Aborted
 }
 
-// A fragment that joins no packet. One of a bad length breaks the open packet.
-fn dropped(account: Account, sequence: Sequence, size: u64) -> Transacted
-    requires { ⌜ (sound account ≡ true) × (account .total < 4294967295) × (sequence ≡ Sequence.Aborted → size ≤ 240) ⌝ }
-    ensures { λ r. ⌜ r ≡ Transact·dropped sequence size account ⌝ }
-{
-    match sequence {
-        Sequence::BadLength => {
-            let broken = counting::ended(account, counting::BROKEN);
-            Transacted {
-                account: counting::single(broken, counting::BADLENGTH, 0),
-                outcome: Outcome::Discarded(Cause::BadLength),
-            }
-        }
-        Sequence::Aborted => Transacted {
-            account: counting::single(account, counting::ABORTED, size),
-            outcome: Outcome::Discarded(Cause::Aborted),
-        },
-        Sequence::Joins(_) => Transacted {
-            account,
-            outcome: Outcome::Taken,
-        },
-    }
-}
-
 // A First supersedes the open packet.
 fn begun(account: Account, first: bool) -> Account
     requires { ⌜ sound account ≡ true ⌝ }
     ensures { λ r. ⌜ r ≡ Transact·begun first account ⌝ }
 {
     if first {
-        return counting::ended(account, counting::SUPERSEDED);
+        return counting::ended(account, state::SUPERSEDED);
     }
     account
 }
 
+// A fragment is written behind the first `at` bytes, and counted to the open packet.
+fn joined(
+    account: Account,
+    store: &mut [u8],
+    at: u64,
+    bytes: &[u8],
+    last: bool,
+    link_up: bool,
+) -> Transacted
+    requires { ⌜ (sound account ≡ true) × (account .total < limit) × (length (now bytes) ≤ maxMaximum) ⌝ }
+    ensures { λ r. ⌜ stored r (now (store .exit)) ≡ Transact·joined at (now (bytes .entry)) last «link_up» account (now (store .entry)) ⌝ }
+{
+    let size = bytes.len() as u64;
+    packet::append(store, at, bytes);
+    if last {
+        return last_judged(account, store, size, link_up);
+    }
+    Transacted {
+        account: counting::grown(account, size),
+        outcome: Outcome::Taken,
+    }
+}
+
 // A Last completes its packet, which is sent unless it is too long, too short or the link is down.
 fn last_judged(account: Account, store: &mut [u8], size: u64, link_up: bool) -> Transacted
-    requires { ⌜ (sound account ≡ true) × (account .total < 4294967295) × (size ≤ 240) ⌝ }
+    requires { ⌜ (sound account ≡ true) × (account .total < limit) × (size ≤ maxMaximum) ⌝ }
     ensures { λ r. ⌜ stored r (now (store .exit)) ≡ lastJudged size «link_up» account (now (store .entry)) ⌝ }
 {
     let total = account.open_bytes + size;
     if packet::MAX_PACKET < total {
         return Transacted {
-            account: counting::finished(account, counting::OVER, size),
+            account: counting::finished(account, state::OVER, size),
             outcome: Outcome::Discarded(Cause::Over),
         };
     }
     if total < MIN_PACKET {
         return Transacted {
-            account: counting::finished(account, counting::SHORT, size),
+            account: counting::finished(account, state::SHORT, size),
             outcome: Outcome::Discarded(Cause::Short),
         };
     }
     if !link_up {
         return Transacted {
-            account: counting::finished(account, counting::LINKDOWN, size),
+            account: counting::finished(account, state::LINKDOWN, size),
             outcome: Outcome::Discarded(Cause::LinkDown),
         };
     }
     packet::fill(store, total);
     Transacted {
-        account: counting::finished(account, counting::SENT, size),
+        account: counting::finished(account, state::SENT, size),
         outcome: Outcome::Sent(packet::sent_length(total)),
     }
 }
 
 // A Receive Enable flushes the open packet, whatever it is answered.
 fn enable(account: Account, settings: &mut [u8], bytes: &[u8]) -> Transacted
-    requires { ⌜ (sound account ≡ true) × (account .total < 4294967295) ⌝ }
-    ensures { λ r. ⌜ kept r (now (settings .exit)) ≡ Transact·enable (now (bytes .entry)) account (now (settings .entry)) ⌝ }
+    requires { ⌜ (sound account ≡ true) × (account .total < limit) ⌝ }
+    ensures { λ r. ⌜ answered r (now (settings .exit)) ≡ Transact·enable (now (bytes .entry)) account (now (settings .entry)) ⌝ }
 {
-    let flushed = counting::ended(account, counting::FLUSHED);
+    let flushed = counting::ended(account, state::FLUSHED);
     let enabled = settings::receive_enable(settings, bytes);
     Transacted {
         account: counting::commanded(flushed, is_taken(enabled)),
@@ -284,11 +278,11 @@ fn is_taken(enabled: Enabled) -> bool
 
 // An unknown command flushes the open packet where F and L are both set.
 fn unknown(account: Account, command: u8) -> Transacted
-    requires { ⌜ (sound account ≡ true) × (account .total < 4294967295) ⌝ }
+    requires { ⌜ (sound account ≡ true) × (account .total < limit) ⌝ }
     ensures { λ r. ⌜ r ≡ Transact·unknown command account ⌝ }
 {
     if command::has_both_flags(command) {
-        let flushed = counting::ended(account, counting::FLUSHED);
+        let flushed = counting::ended(account, state::FLUSHED);
         return Transacted {
             account: counting::commanded(flushed, false),
             outcome: Outcome::Unknown,
@@ -309,7 +303,7 @@ pub fn number(outcome: Outcome) -> u32
         Outcome::Sent(_) => 1,
         Outcome::Discarded(cause) => cause_number(cause),
         Outcome::Unknown => 7,
-        Outcome::Enable(enabled) => enabled_number(enabled),
+        Outcome::Enable(enabled) => settings::number(enabled),
         Outcome::NoRoom => 12,
         Outcome::NotSound => 13,
         Outcome::Full => 14,
@@ -325,19 +319,6 @@ fn cause_number(cause: Cause) -> u32
         Cause::Over => 4,
         Cause::Short => 5,
         Cause::LinkDown => 6,
-    }
-}
-
-fn enabled_number(enabled: Enabled) -> u32
-    ensures { λ r. ⌜ r ≡ Enable·numberOf enabled ⌝ }
-{
-    match enabled {
-        Enabled::TooShort => 12,
-        Enabled::NotSound => 13,
-        Enabled::BadLength => 8,
-        Enabled::BadControl => 9,
-        Enabled::NoMac => 10,
-        Enabled::Taken => 11,
     }
 }
 

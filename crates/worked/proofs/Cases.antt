@@ -13,11 +13,11 @@ use Rattle.state.specs.Account.{allFragments}
 use Rattle.state.specs.Sound as account
 use Rattle.translator.specs.Command.{classIn}
 use Rattle.translator.specs.Counting.{addTo, ended, single, grown, commanded}
-use Rattle.translator.specs.Transact.{sequenceOf, dropped, begun, lastJudged, joined, bySequence, fragment, enable, byClass, transacted}
+use Rattle.translator.specs.Transact.{sequenceOf, badLength, begun, lastJudged, joined, bySequence, fragment, enable, byClass, transacted}
 use Rattle.worked.specs.Cases.{answersFrom, Worked}
 
 pub worked : Worked
-unfolding answersFrom transacted byClass fragment bySequence joined lastJudged begun dropped sequenceOf enable classIn
+unfolding answersFrom transacted byClass fragment bySequence joined lastJudged begun badLength sequenceOf enable classIn
     addTo ended single grown commanded account.countsSound account.rowSound account.rowsSound account.singlesSound account.sumHolds account.sound allFragments
     appended sentLength put receiveEnabled settings-record.allowed settings-record.withSettings settings-record.hasItsMac settings-record.sound
     decided reason parameterReason negotiatedReason forcedReason anyFits fits takes

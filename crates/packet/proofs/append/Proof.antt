@@ -1,22 +1,28 @@
-use Prim.Native.Nat.{_+_}
-use mathlib.Core.Path.{_∙_, sym}
+use Prim.Native.Nat.{_+_, _<_}
+use mathlib.Core.Path.{_∙_}
 use native.Mathlib.Omega.{arith}
 use lib.ListN.{length}
-use borrow.Author.Tests.{lt-ltb}
 use borrow.Author.Needs.{needs}
-use Rattle.prelude.proofs.Tests.{if-true, tests}
+use denote.Ref.{now}
+use Rattle.prelude.proofs.Tests.{tests}
 use Rattle.prelude.proofs.Lists.{copied-into-tail}
-use Rattle.packet.specs.Store.{appended}
+use Rattle.packet.specs.Store.{maxPacket, appended}
 use Rattle.packet.proofs.append.Statement.{statement}
 use Rattle.packet.proofs.append.Tie as tie
 
 returns : tie.Need-returns
 unfolding appended
-returns c = sym (if-true _ _ _ (lt-ltb 1536 (c .before .before .before .args .at + length (c .before .before .before .args .fragment .now)) (omega arith)))
+returns c =
+    let args : _ = c .before .before .before .args in
+    let past : maxPacket < args .at + length (now (args .fragment)) = omega arith in
+    search tests
 
 returns-4 : tie.Need-returns-4
 unfolding appended
-returns-4 c = copied-into-tail (c .before .before .before .before .before .before .before .before .before .args .store .now) (c .before .before .before .before .before .before .before .before .before .args .fragment .now) _ (c .before .before .before .before .before .before .before .before .before .args .at) (omega arith) (c .before .before .copy .ensures .1) ∙ search tests
+returns-4 c =
+    let copies : _ = c .before .before in
+    let args : _ = copies .before .before .before .before .before .before .before .args in
+    copied-into-tail (now (args .store)) (now (args .fragment)) _ (args .at) (omega arith) (copies .copy .ensures .1) ∙ search tests
 
 pub append-spec : {M : Type 1} → statement M
 unfolding appended

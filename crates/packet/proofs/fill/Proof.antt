@@ -1,18 +1,24 @@
-use Prim.Native.Nat.{_-_}
+use Prim.Native.Nat.{_-_, _≤_}
 use mathlib.Core.Path.{_∙_, ap}
 use native.Mathlib.Omega.{arith}
 use borrow.Author.Needs.{needs}
+use denote.Ref.{now}
 use Rattle.prelude.specs.Parts.{part, put}
 use Rattle.prelude.proofs.Lists.{copied-into-tail}
 use Rattle.prelude.proofs.Tests.{tests}
 use Rattle.packet.proofs.Zeros.{zeros, zeros-from, length-zeros-from}
-use Rattle.packet.specs.Store.{filled}
+use Rattle.packet.specs.Store.{minSent, filled}
 use Rattle.packet.proofs.fill.Statement.{statement}
 use Rattle.packet.proofs.fill.Tie as tie
 
 returns-3 : tie.Need-returns-3
 unfolding filled
-returns-3 c = copied-into-tail (c .before .before .before .before .before .before .before .before .before .args .store .now) (part (c .before .before .before .before .before .before .before .before .before .args .total) (64 - c .before .before .before .before .before .before .before .before .before .args .total) (zeros 64)) _ (c .before .before .before .before .before .before .before .before .before .args .total) (omega (arith, length-zeros-from 64 (c .before .before .before .before .before .before .before .before .before .args .total) (omega arith))) (c .before .before .copy .ensures .1) ∙ (ap (put (c .before .before .before .before .before .before .before .before .before .args .store .now) (c .before .before .before .before .before .before .before .before .before .args .total)) (zeros-from 64 (c .before .before .before .before .before .before .before .before .before .args .total) (omega arith)) ∙ search tests)
+returns-3 c =
+    let copies : _ = c .before .before in
+    let args : _ = copies .before .before .before .before .before .before .before .args in
+    let few : args .total ≤ minSent = omega arith in
+    copied-into-tail (now (args .store)) (part (args .total) (minSent - args .total) (zeros minSent)) _ (args .total) (omega (arith, length-zeros-from minSent (args .total) few)) (copies .copy .ensures .1)
+    ∙ (ap (put (now (args .store)) (args .total)) (zeros-from minSent (args .total) few) ∙ search tests)
 
 pub fill-spec : {M : Type 1} → statement M
 unfolding filled

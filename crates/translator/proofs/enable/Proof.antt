@@ -1,36 +1,30 @@
 use native.Mathlib.Omega.{arith}
 use borrow.Author.Needs.{needs}
+use Rattle.state.specs.Account.{flushed}
 use Rattle.translator.proofs.Soundness.{ended-ready}
 use Rattle.translator.specs.Transact.{enable}
 use Rattle.translator.proofs.enable.Statement.{statement}
 use Rattle.translator.proofs.enable.Tie as tie
 
-ended-requires : tie.Need-ended-requires
-ended-requires c κs = search needs
-
-receive-enable-requires : tie.Need-receive-enable-requires
-receive-enable-requires c κs = search needs
-
-is-taken-requires : tie.Need-is-taken-requires
-is-taken-requires c κs = search needs
-
 commanded-requires : tie.Need-commanded-requires
-commanded-requires c κs = rw (c .before .before .before .before .before .ended .ensures) (ended-ready (c .before .before .before .before .before .before .before .before .args .account) (search needs) (c .before .before .before .before .before .before .before .before .pre .0) (c .before .before .before .before .before .before .before .before .pre .1) 2 (omega arith))
-
-same-length : tie.Need-same-length
-same-length c = search needs
+commanded-requires c κs =
+    let flushes : _ = c .before .before .before .before .before in
+    let entry : _ = flushes .before .before .before in
+    rw (flushes .ended .ensures) (ended-ready (entry .args .account) (search needs) (entry .pre .0) (entry .pre .1) flushed (omega arith))
 
 returns : tie.Need-returns
 unfolding enable
-returns c = rw (c .commanded .ensures, c .before .is-taken .ensures, c .before .before .before .before .before .before .ended .ensures, ← c .before .before .before .before .receive-enable .ensures)
+returns c =
+    let enables : _ = c .before .before .before .before in
+    rw (c .commanded .ensures, c .before .is-taken .ensures, enables .before .before .ended .ensures, ← enables .receive-enable .ensures)
 
 pub enable-spec : {M : Type 1} → statement M
 enable-spec =
     tie.close
     (tie.spec
-    ended-requires
-    receive-enable-requires
-    is-taken-requires
+    (λ c κs. search needs)
+    (search needs)
+    (search needs)
     commanded-requires
-    same-length
+    (search needs)
     returns)

@@ -1,64 +1,78 @@
-use mathlib.Core.Path.{_∙_, sym}
+use Prim.Native.Nat.{_≤_}
+use mathlib.Core.Path.{_≡_, _∙_, sym}
 use borrow.Author.Needs.{needs}
+use borrow.Author.Tests.{le-ltb, lt-ltb}
+use denote.Ref.{now}
+use lib.ListN.{length}
 use Rattle.prelude.proofs.Tests.{if-true, if-false}
-use Rattle.translator.specs.Transact.{bySequence, joined, fragment}
-use Rattle.translator.proofs.Sequences.{not-joined, aborted-size, joins-size}
+use Rattle.state.specs.Account.{maxMaximum}
+use Rattle.translator.specs.Transact.{bySequence, fragment}
 use Rattle.translator.proofs.Soundness.{begun-ready, within-maximum}
 use Rattle.translator.proofs.fragment.Statement.{statement}
 use Rattle.translator.proofs.fragment.Tie as tie
 
-sequence-of-requires : tie.Need-sequence-of-requires
-sequence-of-requires c κs = search needs
-
-enum-known-sequence : tie.Need-enum-known-sequence
-enum-known-sequence c = search needs
-
-dropped-requires : tie.Need-dropped-requires
-dropped-requires c κs = (c .before .before .before .before .pre .0, c .before .before .before .before .pre .1, λ e. within-maximum (c .before .before .before .before .args .account) _ (c .before .before .before .before .pre .0) (aborted-size _ _ _ _ _ (sym (c .before .sequence-of .ensures) ∙ e)))
-
 returns : tie.Need-returns
-unfolding fragment bySequence joined
-returns c = rw (c .dropped .ensures, ← c .before .before .sequence-of .ensures) (not-joined _ _ _ _ _ _ _ (c .before .match .keys2))
-
-append-requires : tie.Need-append-requires
-append-requires c κs = search needs
-
-begun-requires : tie.Need-begun-requires
-begun-requires c κs = search needs
-
-last-judged-requires : tie.Need-last-judged-requires
-last-judged-requires c κs = let ready : _ = begun-ready (c .before .before .before .before .before .before .before .before .before .before .before .before .before .args .account) (search needs) (c .before .before .before .before .before .before .before .before .before .before .before .before .before .pre .0) (c .before .before .before .before .before .before .before .before .before .before .before .before .before .pre .1) (c .before .before .before .before .before .before .before .before .before .before .before .before .before .args .first) in rw (c .before .before .begun .ensures) (ready .0, ready .1, within-maximum (c .before .before .before .before .before .before .before .before .before .before .before .before .before .args .account) _ (c .before .before .before .before .before .before .before .before .before .before .before .before .before .pre .0) (joins-size _ _ _ _ _ _ (sym (c .before .before .before .before .before .before .before .before .before .before .sequence-of .ensures) ∙ c .before .before .before .before .before .before .before .before .sequence .given .1)))
-
-same-length : tie.Need-same-length
-same-length c = search needs
+unfolding fragment
+returns c = rw (c .bad-length .ensures) (sym (if-true _ _ _ (lt-ltb _ _ (c .before .if1 .taken))))
 
 returns-2 : tie.Need-returns-2
-unfolding fragment bySequence joined
-returns-2 c = rw (sym (c .before .before .before .before .before .before .before .before .before .before .before .before .before .sequence-of .ensures) ∙ c .before .before .before .before .before .before .before .before .before .before .before .sequence .given .1, c .before .before .last-judged .ensures, c .before .before .before .before .before .before .before .before .append .ensures, c .before .before .before .before .before .begun .ensures) (sym (if-true _ _ _ (c .before .before .before .before .if1 .taken)))
+unfolding fragment
+returns-2 c =
+    rw (c .bad-length2 .ensures)
+    (sym (if-false _ _ _ (le-ltb _ _ (c .before .before .before .if1 .left)) ∙ if-true _ _ _ (lt-ltb _ _ (c .before .if2 .taken))))
 
-grown-requires : tie.Need-grown-requires
-grown-requires c κs = let ready : _ = begun-ready (c .before .before .before .before .before .before .before .before .before .before .before .before .args .account) (search needs) (c .before .before .before .before .before .before .before .before .before .before .before .before .pre .0) (c .before .before .before .before .before .before .before .before .before .before .before .before .pre .1) (c .before .before .before .before .before .before .before .before .before .before .before .before .args .first) in rw (c .before .begun .ensures) (ready .0, ready .1, within-maximum (c .before .before .before .before .before .before .before .before .before .before .before .before .args .account) _ (c .before .before .before .before .before .before .before .before .before .before .before .before .pre .0) (joins-size _ _ _ _ _ _ (sym (c .before .before .before .before .before .before .before .before .before .sequence-of .ensures) ∙ c .before .before .before .before .before .before .before .sequence .given .1)))
+-- past the two tests of its length, a fragment is one of at most 240 bytes
+small : (c : tie.Else2) → length (now (c .before .before .before .before .before .args .bytes)) ≤ maxMaximum
+small c =
+    let entry : _ = c .before .before .before .before .before in
+    within-maximum (entry .args .account) _ (entry .pre .0) (c .if2 .left)
 
-same-length-2 : tie.Need-same-length-2
-same-length-2 c = search needs
+-- and the sequence rule decides
+in-sequence : (c : tie.After-sequence-of) →
+    let args : _ = c .before .before .before .before .before .before .args in
+    fragment (now (args .bytes)) (args .first) (args .last) (args .link-up) (args .account) (now (args .store))
+    ≡ bySequence (c .sequence-of .result) (now (args .bytes)) (args .first) (args .last) (args .link-up) (args .account) (now (args .store))
+unfolding fragment
+in-sequence c =
+    let else2 : _ = c .before in
+    rw (c .sequence-of .ensures)
+    (if-false _ _ _ (le-ltb _ _ (else2 .before .before .if1 .left)) ∙ if-false _ _ _ (le-ltb _ _ (else2 .if2 .left)))
+
+single-requires : tie.Need-single-requires
+single-requires c κs = (search needs, search needs, search needs, small (c .before .before .before))
 
 returns-3 : tie.Need-returns-3
-unfolding fragment bySequence joined
-returns-3 c = rw (sym (c .before .before .before .before .before .before .before .before .before .before .sequence-of .ensures) ∙ c .before .before .before .before .before .before .before .before .sequence .given .1, c .grown .ensures, c .before .before .before .before .before .append .ensures, c .before .before .begun .ensures) (sym (if-false _ _ _ (c .before .if1 .left)))
+unfolding bySequence
+returns-3 c = rw (c .single .ensures, in-sequence (c .before .before .before), c .before .enum-told .given .1)
+
+joined-requires : tie.Need-joined-requires
+joined-requires c κs =
+    let else2 : _ = c .before .before .before .before .before .before in
+    let entry : _ = else2 .before .before .before .before .before in
+    let ready : _ = begun-ready (entry .args .account) (search needs) (entry .pre .0) (entry .pre .1) (entry .args .first) in
+    rw (c .before .begun .ensures) (ready .0, ready .1, small else2)
+
+returns-4 : tie.Need-returns-4
+unfolding bySequence
+returns-4 c =
+    let joins : _ = c .before .before in
+    let after-sequence : _ = joins .before .before .before .before in
+    rw (joins .joined .ensures, joins .before .before .begun .ensures, in-sequence (after-sequence .before .before), after-sequence .sequence .given .1)
 
 pub fragment-spec : {M : Type 1} → statement M
 fragment-spec =
     tie.close
     (tie.spec
-    sequence-of-requires
-    enum-known-sequence
-    dropped-requires
+    (λ c κs. search needs)
     returns
-    append-requires
-    begun-requires
-    last-judged-requires
-    same-length
+    (λ c κs. search needs)
     returns-2
-    grown-requires
-    same-length-2
-    returns-3)
+    (search needs)
+    (search needs)
+    (search needs)
+    single-requires
+    returns-3
+    (λ c κs. search needs)
+    joined-requires
+    (search needs)
+    returns-4)

@@ -10,6 +10,4 @@ sequence-of-spec =
     (tie.spec
     (λ c. search tests)
     (λ c. search tests)
-    (λ c. search tests)
-    (λ c. search tests)
     (λ c. search tests))

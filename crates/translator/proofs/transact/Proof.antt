@@ -1,45 +1,58 @@
-use mathlib.Core.Path.{_∙_, sym}
-use borrow.Author.Tests.{lt-ltb, le-ltb, eq-eqb, ne-eqb, not-true, not-false}
+use mathlib.Core.Path.{_≡_, _∙_, sym}
+use borrow.Author.Tests.{not-false}
 use borrow.Author.Needs.{needs}
-use Rattle.prelude.proofs.Tests.{if-true, if-false}
+use denote.Ref.{now}
+use Rattle.prelude.proofs.Tests.{tests}
 use Rattle.translator.proofs.Soundness.{not-full}
-use Rattle.translator.specs.Transact.{transacted}
+use Rattle.translator.specs.Command.{commands, classIn}
+use Rattle.translator.specs.Transact.{byClass, transacted}
 use Rattle.translator.proofs.transact.Statement.{statement}
 use Rattle.translator.proofs.transact.Tie as tie
 
-returns : tie.Need-returns
-unfolding transacted
-returns c = sym (if-true _ _ _ (lt-ltb _ _ (c .if1 .taken)))
-
-returns-2 : tie.Need-returns-2
-unfolding transacted
-returns-2 c = sym (if-false _ _ _ (le-ltb _ _ (c .before .if1 .left)) ∙ if-true _ _ _ (lt-ltb _ _ (c .if2 .taken)))
-
 returns-3 : tie.Need-returns-3
 unfolding transacted
-returns-3 c = sym (if-false _ _ _ (le-ltb _ _ (c .before .before .before .if1 .left)) ∙ (if-false _ _ _ (le-ltb _ _ (c .before .before .if2 .left)) ∙ if-false _ _ _ (sym (c .before .is-sound .ensures) ∙ not-true _ (c .if3 .taken))))
+returns-3 c = search (tests, sym (c .before .is-sound .ensures))
 
 returns-4 : tie.Need-returns-4
 unfolding transacted
-returns-4 c = sym (if-false _ _ _ (le-ltb _ _ (c .before .before .before .before .before .before .if1 .left)) ∙ (if-false _ _ _ (le-ltb _ _ (c .before .before .before .before .before .if2 .left)) ∙ (if-true _ _ _ (sym (c .before .before .before .before .is-sound .ensures) ∙ not-false _ (c .before .before .before .if3 .left)) ∙ if-false _ _ _ (sym (c .before .is-sound2 .ensures) ∙ not-true _ (c .if4 .taken)))))
+returns-4 c =
+    let else3 : _ = c .before .before .before in
+    search (tests, sym (else3 .before .is-sound .ensures), sym (c .before .is-sound2 .ensures))
 
 returns-5 : tie.Need-returns-5
 unfolding transacted
-returns-5 c = sym (if-false _ _ _ (le-ltb _ _ (c .before .before .before .before .before .before .before .before .if1 .left)) ∙ (if-false _ _ _ (le-ltb _ _ (c .before .before .before .before .before .before .before .if2 .left)) ∙ (if-true _ _ _ (sym (c .before .before .before .before .before .before .is-sound .ensures) ∙ not-false _ (c .before .before .before .before .before .if3 .left)) ∙ (if-true _ _ _ (sym (c .before .before .before .is-sound2 .ensures) ∙ not-false _ (c .before .before .if4 .left)) ∙ if-true _ _ _ (eq-eqb _ _ (c .if5 .taken))))))
+returns-5 c =
+    let after : _ = c .before .before .before in
+    search (tests, sym (after .before .before .before .is-sound .ensures), sym (after .is-sound2 .ensures))
 
 step-requires : tie.Need-step-requires
-step-requires c κs = let s : _ = sym (c .before .before .before .before .before .before .before .before .is-sound .ensures) ∙ not-false _ (c .before .before .before .before .before .before .before .if3 .left) in (s, not-full (c .before .before .before .before .before .before .before .before .before .before .before .before .before .before .args .account) s (c .before .before .if5 .left))
+step-requires c κs =
+    let else3 : _ = c .before .before .before .before .before .before .before in
+    let s : _ = sym (else3 .before .is-sound .ensures) ∙ not-false _ (else3 .if3 .left) in
+    (s, not-full (else3 .before .before .before .before .before .before .before .args .account) s (c .before .before .if5 .left))
+
+-- past every test, the command decides
+by-command : (c : tie.Else5) →
+    let args : _ = c .before .before .before .before .before .before .before .before .before .before .before .before .args in
+    transacted (args .account) (now (args .store)) (now (args .settings)) (args .command) (now (args .bytes)) (args .link-up)
+    ≡ byClass (classIn commands (args .command)) (args .command) (now (args .bytes)) (args .link-up) (args .account) (now (args .store)) (now (args .settings))
+unfolding transacted
+by-command c =
+    let after : _ = c .before .before .before in
+    search (tests, sym (after .before .before .before .is-sound .ensures), sym (after .is-sound2 .ensures))
 
 returns-6 : tie.Need-returns-6
-unfolding transacted
-returns-6 c = c .before .before .before .before .step .ensures ∙ sym (if-false _ _ _ (le-ltb _ _ (c .before .before .before .before .before .before .before .before .before .before .before .before .before .before .before .if1 .left)) ∙ (if-false _ _ _ (le-ltb _ _ (c .before .before .before .before .before .before .before .before .before .before .before .before .before .before .if2 .left)) ∙ (if-true _ _ _ (sym (c .before .before .before .before .before .before .before .before .before .before .before .before .before .is-sound .ensures) ∙ not-false _ (c .before .before .before .before .before .before .before .before .before .before .before .before .if3 .left)) ∙ (if-true _ _ _ (sym (c .before .before .before .before .before .before .before .before .before .before .is-sound2 .ensures) ∙ not-false _ (c .before .before .before .before .before .before .before .before .before .if4 .left)) ∙ if-false _ _ _ (ne-eqb _ _ (c .before .before .before .before .before .before .before .if5 .left))))))
+returns-6 c =
+    let steps : _ = c .before .before .before .before in
+    rw (steps .step .ensures, by-command (steps .before .before .before))
 
 pub transact-spec : {M : Type 1} → statement M
+unfolding transacted
 transact-spec =
     tie.close
     (tie.spec
-    returns
-    returns-2
+    (λ c. search tests)
+    (λ c. search tests)
     (search needs)
     returns-3
     (search needs)

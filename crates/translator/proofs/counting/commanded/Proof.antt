@@ -7,10 +7,14 @@ use Rattle.translator.proofs.counting.commanded.Statement.{statement}
 use Rattle.translator.proofs.counting.commanded.Tie as tie
 
 add-after-2 : tie.Need-add-after-2
-add-after-2 c = record { fits = omega (arith, open-fits (c .before .before .before .args .account) (c .before .before .before .pre .0) .taken) }
+add-after-2 c =
+    let entry : _ = c .before .before .before in
+    record { fits = omega (arith, open-fits (entry .args .account) (entry .pre .0) .taken) }
 
 add-after-3 : tie.Need-add-after-3
-add-after-3 c = record { fits = omega (arith, open-fits (c .before .before .before .args .account) (c .before .before .before .pre .0) .refused) }
+add-after-3 c =
+    let entry : _ = c .before .before .before in
+    record { fits = omega (arith, open-fits (entry .args .account) (entry .pre .0) .refused) }
 
 pub commanded-spec : {M : Type 1} → statement M
 unfolding commanded

@@ -7,7 +7,10 @@ use Rattle.translator.proofs.counting.ended.Statement.{statement}
 use Rattle.translator.proofs.counting.ended.Tie as tie
 
 add-to-requires : tie.Need-add-to-requires
-add-to-requires c κs = let fits : _ = open-fits (c .before .before .args .account) (c .before .before .pre .0) in row-fits (c .before .before .args .account) (c .before .before .pre .0) (c .before .before .args .row) 1 _ _ (omega arith) (omega arith) (omega (arith, fits .fragments)) (omega (arith, fits .bytes))
+add-to-requires c κs =
+    let entry : _ = c .before .before in
+    let fits : _ = open-fits (entry .args .account) (entry .pre .0) in
+    row-fits (entry .args .account) (entry .pre .0) (entry .args .row) 1 _ _ (omega arith) (omega arith) (omega (arith, fits .fragments)) (omega (arith, fits .bytes))
 
 returns-2 : tie.Need-returns-2
 unfolding ended

@@ -6,13 +6,20 @@ use Rattle.translator.proofs.counting.finished.Statement.{statement}
 use Rattle.translator.proofs.counting.finished.Tie as tie
 
 add-fragments : tie.Need-add-fragments
-add-fragments c = record { fits = omega (arith, open-fits (c .before .before .args .account) (c .before .before .pre .0) .fragments) }
+add-fragments c =
+    let entry : _ = c .before .before in
+    record { fits = omega (arith, open-fits (entry .args .account) (entry .pre .0) .fragments) }
 
 add-add-to : tie.Need-add-add-to
-add-add-to c = record { fits = omega (arith, open-fits (c .before .before .before .args .account) (c .before .before .before .pre .0) .bytes) }
+add-add-to c =
+    let entry : _ = c .before .before .before in
+    record { fits = omega (arith, open-fits (entry .args .account) (entry .pre .0) .bytes) }
 
 add-to-requires : tie.Need-add-to-requires
-add-to-requires c κs = let fits : _ = open-fits (c .before .before .before .args .account) (c .before .before .before .pre .0) in row-fits (c .before .before .before .args .account) (c .before .before .before .pre .0) (c .before .before .before .args .row) 1 _ _ (omega arith) (omega arith) (omega (arith, fits .fragments)) (omega (arith, fits .bytes))
+add-to-requires c κs =
+    let entry : _ = c .before .before .before in
+    let fits : _ = open-fits (entry .args .account) (entry .pre .0) in
+    row-fits (entry .args .account) (entry .pre .0) (entry .args .row) 1 _ _ (omega arith) (omega arith) (omega (arith, fits .fragments)) (omega (arith, fits .bytes))
 
 returns : tie.Need-returns
 unfolding finished

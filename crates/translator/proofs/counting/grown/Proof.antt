@@ -6,10 +6,14 @@ use Rattle.translator.proofs.counting.grown.Statement.{statement}
 use Rattle.translator.proofs.counting.grown.Tie as tie
 
 add-fragments : tie.Need-add-fragments
-add-fragments c = record { fits = omega (arith, open-fits (c .before .before .args .account) (c .before .before .pre .0) .fragments) }
+add-fragments c =
+    let entry : _ = c .before .before in
+    record { fits = omega (arith, open-fits (entry .args .account) (entry .pre .0) .fragments) }
 
 add-recounted : tie.Need-add-recounted
-add-recounted c = record { fits = omega (arith, open-fits (c .before .before .before .args .account) (c .before .before .before .pre .0) .bytes) }
+add-recounted c =
+    let entry : _ = c .before .before .before in
+    record { fits = omega (arith, open-fits (entry .args .account) (entry .pre .0) .bytes) }
 
 returns : tie.Need-returns
 unfolding grown

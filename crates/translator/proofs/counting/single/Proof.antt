@@ -6,7 +6,9 @@ use Rattle.translator.proofs.counting.single.Statement.{statement}
 use Rattle.translator.proofs.counting.single.Tie as tie
 
 add-to-requires : tie.Need-add-to-requires
-add-to-requires c κs = row-fits (c .before .args .account) (c .before .pre .0) (c .before .args .row) 0 1 _ (c .before .pre .2) (omega arith) (omega arith) (omega arith)
+add-to-requires c κs =
+    let entry : _ = c .before in
+    row-fits (entry .args .account) (entry .pre .0) (entry .args .row) 0 1 _ (entry .pre .2) (omega arith) (omega arith) (omega arith)
 
 returns : tie.Need-returns
 unfolding single
