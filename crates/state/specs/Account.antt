@@ -1,6 +1,5 @@
 -- The account: its grid of rows and columns, and a fresh one (document 01, The account).
 use Prim.Native.Nat.{ℕ, zero, suc, _+_, _*_}
-use mathlib.Core.Bool.{Bool}
 use mathlib.Core.List.{List}
 use lib.Dec.{ltb}
 use lib.ListN.{getD, replicate}

@@ -3,7 +3,7 @@ use Prim.Native.Nat.{ℕ, zero, suc, _+_, _*_}
 use mathlib.Core.Bool.{Bool, true}
 use mathlib.Core.List.{List}
 use lib.Dec.{eqb, leb, ltb}
-use Rattle.prelude.specs.Choice.{if_then_else_, _and_}
+use Rattle.prelude.specs.Choice.{_and_}
 use Rattle.state.specs.declared.Account.{Account}
 use Rattle.state.specs.Account.{limit, maxMaximum, rows, aborted, badlength, packetsIn, fragmentsIn, bytesIn, allFragments}
 

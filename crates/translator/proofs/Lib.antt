@@ -1,8 +1,9 @@
+pub mod Acts
 pub mod Added
-pub mod Closing
 pub mod Commands
 pub mod Frame
+pub mod Keeping
 pub mod Properties
 pub mod Rows
-pub mod Sequences
 pub mod Soundness
+pub mod Ways

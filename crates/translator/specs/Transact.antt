@@ -12,7 +12,7 @@ use Rattle.settings.specs.declared.enable.Enabled.the-variants as enabled
 use Rattle.settings.specs.Enable.{numberOf, Answered, answered, receiveEnabled}
 use Rattle.state.specs.declared.Account.{Account}
 use Rattle.state.specs.Account.{limit, sent, superseded, flushed, broken, over, short, linkdown, aborted, badlength}
-use Rattle.state.specs.Sound.{sound, isOpen}
+use Rattle.state.specs.Sound.{sound}
 use Rattle.translator.specs.declared.Cause.the-variants as cause
 use Rattle.translator.specs.declared.Outcome.{Outcome}
 use Rattle.translator.specs.declared.Outcome.the-variants as outcome

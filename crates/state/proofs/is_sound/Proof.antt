@@ -4,7 +4,7 @@ use lib.Dec.{leb}
 use native.Mathlib.Omega.{arith}
 use borrow.Author.Tests.{not-false, le-leb}
 use borrow.Author.Needs.{needs}
-use Rattle.prelude.specs.Choice.{if_then_else_, _and_}
+use Rattle.prelude.specs.Choice.{_and_}
 use Rattle.prelude.proofs.Tests.{tests, if-true}
 use Rattle.state.proofs.Sound.{open-most}
 use Rattle.state.specs.Sound.{sound}
