@@ -22,7 +22,7 @@ use Rattle.translator.specs.Command.{commands, classIn}
 use Rattle.translator.specs.Counting.{addTo, recounted, ended, single, grown, finished, commanded}
 use Rattle.translator.specs.Outcome.{numberOf}
 use Rattle.translator.specs.Transact.{isTaken}
-use Rattle.translator.specs.Properties.{Formed, noRow, ownRow, fragmentCloses, closesIn, closedRow, SameRow, Adds, noPacket, openPacket, completes, Leaves}
+use Rattle.translator.specs.Properties.{Formed, noRow, ownRow, fragmentCloses, closesIn, closedRow, SameRow, Adds, Packet, noPacket, openPacket, completes, Leaves}
 use Rattle.translator.proofs.Added.{Cells, added-length, added-here, added-elsewhere}
 use Rattle.translator.proofs.Soundness.{single-sound, finished-sound, grown-sound, commanded-sound, within-maximum}
 use Rattle.translator.proofs.Ways.{leftover, Act, acted, LastIn, Fits, Ready}
@@ -135,7 +135,7 @@ closed-is a command o few = ap (λ (row : ℕ). whereOpen a row) (if-true _ _ _ 
 pub completes-tells : (n : ℕ) → completes n ≡ true → (n ≡ 1) ⊎ ((4 ≤ n) × (n ≤ 6))
 completes-tells n = if-cases (λ (t : Bool). t ≡ true → (n ≡ 1) ⊎ ((4 ≤ n) × (n ≤ 6))) _ _ _ (λ e _. inl (eqb-true _ _ e)) (λ _ h. inr (leb-true _ _ (if-first _ _ h), leb-true _ _ (if-second _ _ h)))
 
-pub not-completes : (n : ℕ) → (n ≡ 1 → ⊥) → (n < 4) ⊎ (6 < n) → completes n ≡ true → ⊥
+not-completes : (n : ℕ) → (n ≡ 1 → ⊥) → (n < 4) ⊎ (6 < n) → completes n ≡ true → ⊥
 not-completes n one apart h = ⊎-elim one (λ b. ⊎-elim (λ l. omega arith) (λ l. omega arith) apart) (completes-tells n h)
 
 -- a counted answer, and what it says of the numbers beside the grid
@@ -190,10 +190,9 @@ unknown-beside b = record {
 last-is-not : (row : ℕ) (o : Outcome) → LastIn row o → (n : ℕ) → (n ≡ 1 → ⊥) → n < 4 → numberOf o ≡ n → ⊥
 last-is-not row o last n one few e = ⊎-elim (λ q. one (sym e ∙ q)) (λ b. omega arith) (completes-tells (numberOf o) (last .completed))
 
--- a command leaves what is open
-command-leaves : (size : ℕ) (b : Account) (o : Outcome) (isTaken : Bool) → 7 ≤ numberOf o → Leaves (openPacket b) size b o (commanded isTaken b)
-unfolding commanded
-command-leaves size b o isTaken many =
+-- an answer that is no fragment's leaves what is left
+pub no-fragment-leaves : (left : Packet) (size : ℕ) (before : Account) (o : Outcome) (after : Account) → 7 ≤ numberOf o → openPacket after ≡ left → Leaves left size before o after
+no-fragment-leaves left size before o after many same =
     let incomplete : completes (numberOf o) ≡ true → ⊥ = not-completes (numberOf o) (λ e. omega arith) (inr many) in
     record {
       taken-joins-what-is-left = λ e. absurd (omega arith);
@@ -201,7 +200,7 @@ command-leaves size b o isTaken many =
       last-counts-what-is-left = λ h. absurd (incomplete h);
       aborted-counts-alone = λ e. absurd (omega arith);
       bad-length-counts-alone = λ e. absurd (omega arith);
-      others-leave-what-is-left = λ _ _. refl;
+      others-leave-what-is-left = λ _ _. same;
     }
 
 -- adding to a row, seen from it and from another
@@ -258,7 +257,7 @@ module _ (maximum size : ℕ) (b : Account) where
   act-apart (way.commands-it _) _ way.is-unknown = inr (omega arith)
 
   pub act-leaves : Formed b → (act : Act) (o : Outcome) → Fits maximum size act o → Leaves (openPacket b) size b o (acted act b)
-  unfolding single grown finished
+  unfolding single grown finished commanded
   act-leaves formed (way.alone _ _) _ (way.aborts few) =
       let incomplete : completes 2 ≡ true → ⊥ = not-completes 2 (λ e. omega arith) (inl (omega arith)) in
       record {
@@ -299,8 +298,8 @@ module _ (maximum size : ℕ) (b : Account) where
         bad-length-counts-alone = λ e. absurd (last-is-not row o last 3 (λ q. omega arith) (omega arith) e);
         others-leave-what-is-left = λ _ h. absurd (true≢false (sym (last .completed) ∙ h));
       }
-  act-leaves formed (way.commands-it _) _ (way.enables e from to) = command-leaves size b (outcome.Enable e) (isTaken e) (omega arith)
-  act-leaves formed (way.commands-it _) _ way.is-unknown = command-leaves size b outcome.Unknown false (omega arith)
+  act-leaves formed (way.commands-it _) _ (way.enables e from to) = no-fragment-leaves (openPacket b) size b (outcome.Enable e) _ (omega arith) refl
+  act-leaves formed (way.commands-it _) _ way.is-unknown = no-fragment-leaves (openPacket b) size b outcome.Unknown _ (omega arith) refl
 
   pub act-sound : Ready b → b .maximum ≡ maximum → (act : Act) (o : Outcome) → Fits maximum size act o → sound (acted act b) ≡ true
   act-sound r m (way.alone _ _) _ (way.aborts few) = single-sound b (r .formed) (r .is-sound) aborted size (r .room) (omega arith) (omega arith) (within-maximum b size (r .is-sound) (omega arith)) (λ x. absurd (omega arith))

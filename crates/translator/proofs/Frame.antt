@@ -1,7 +1,6 @@
 -- A transaction alters only the lines of its own fate and of the packet that it closes, each as the rules say.
 -- Assumes nothing.
 use Prim.Native.Nat.{ℕ, _+_, _<_, _≤_}
-use mathlib.Core.Bool.{true}
 use mathlib.Core.List.{List}
 use mathlib.Core.Logic.{_⊎_, inr}
 use mathlib.Core.Path.{_≡_, refl, sym, ap, subst, _∙_}
@@ -15,9 +14,9 @@ use Rattle.translator.specs.declared.Outcome.{Outcome}
 use Rattle.translator.specs.Command.{commands, classIn}
 use Rattle.translator.specs.Outcome.{numberOf}
 use Rattle.translator.specs.Transact.{Done}
-use Rattle.translator.specs.Properties.{Formed, noRow, ownRow, closesIn, closedRow, SameRow, Frames, EveryFrame, Adds, Closing, EveryClosing, Packet, openPacket, leftOpen, completes, Leaves, EveryLeaving}
+use Rattle.translator.specs.Properties.{Formed, noRow, ownRow, closesIn, closedRow, SameRow, Frames, EveryFrame, Adds, Closing, EveryClosing, Packet, openPacket, leftOpen, Leaves, EveryLeaving}
 use Rattle.translator.proofs.Ways.{leftover, Went, by-way}
-use Rattle.translator.proofs.Acts.{whereOpen, SameBeside, closes-in, closed-is, same, then-same, adds-then-same, same-then-adds, left-beside, left-open, left-formed, left-same, left-adds, own-not-closed, Beside, act-beside, act-same, act-apart, act-leaves, not-completes}
+use Rattle.translator.proofs.Acts.{whereOpen, SameBeside, closes-in, closed-is, same, then-same, adds-then-same, same-then-adds, left-beside, left-open, left-formed, left-same, left-adds, own-not-closed, Beside, act-beside, act-same, act-apart, act-leaves, no-fragment-leaves}
 
 -- a transaction that was counted
 module _ (a : Account) (store settings : List ℕ) (command : ℕ) (bytes : List ℕ) (d : Done) (formed : Formed a)
@@ -109,16 +108,7 @@ module _ (a : Account) (command : ℕ) (o : Outcome) (many : 12 ≤ numberOf o) 
   leaves-all = let none : rows ≤ closedRow a command o = omega (arith, closes-none) in sym (if-false _ _ _ (le-ltb _ _ none))
 
   refused-leaves : (size : ℕ) → Leaves (leftOpen a command o) size a o a
-  refused-leaves size =
-      let incomplete : completes (numberOf o) ≡ true → ⊥ = not-completes (numberOf o) (λ e. omega arith) (inr (omega arith)) in
-      record {
-        taken-joins-what-is-left = λ e. absurd (omega arith);
-        last-leaves-none-open = λ h. absurd (incomplete h);
-        last-counts-what-is-left = λ h. absurd (incomplete h);
-        aborted-counts-alone = λ e. absurd (omega arith);
-        bad-length-counts-alone = λ e. absurd (omega arith);
-        others-leave-what-is-left = λ _ _. leaves-all;
-      }
+  refused-leaves size = no-fragment-leaves (leftOpen a command o) size a o a (omega arith) leaves-all
 
 pub every-frame : EveryFrame
 every-frame =

@@ -1,10 +1,9 @@
 use Prim.Native.Nat.{_≤_}
-use mathlib.Core.Path.{_≡_, _∙_, sym}
+use mathlib.Core.Path.{_≡_}
 use borrow.Author.Needs.{needs}
-use borrow.Author.Tests.{le-ltb, lt-ltb}
 use denote.Ref.{now}
 use lib.ListN.{length}
-use Rattle.prelude.proofs.Tests.{if-true, if-false}
+use Rattle.prelude.proofs.Tests.{tests}
 use Rattle.state.specs.Account.{maxMaximum}
 use Rattle.translator.specs.Transact.{bySequence, fragment}
 use Rattle.translator.proofs.Soundness.{begun-ready, within-maximum}
@@ -13,13 +12,11 @@ use Rattle.translator.proofs.fragment.Tie as tie
 
 returns : tie.Need-returns
 unfolding fragment
-returns c = rw (c .bad-length .ensures) (sym (if-true _ _ _ (lt-ltb _ _ (c .before .if1 .taken))))
+returns c = rw (c .bad-length .ensures) (search tests)
 
 returns-2 : tie.Need-returns-2
 unfolding fragment
-returns-2 c =
-    rw (c .bad-length2 .ensures)
-    (sym (if-false _ _ _ (le-ltb _ _ (c .before .before .before .if1 .left)) ∙ if-true _ _ _ (lt-ltb _ _ (c .before .if2 .taken))))
+returns-2 c = rw (c .bad-length2 .ensures) (search tests)
 
 -- past the two tests of its length, a fragment is one of at most 240 bytes
 small : (c : tie.Else2) → length (now (c .before .before .before .before .before .args .bytes)) ≤ maxMaximum
@@ -33,10 +30,7 @@ in-sequence : (c : tie.After-sequence-of) →
     fragment (now (args .bytes)) (args .first) (args .last) (args .link-up) (args .account) (now (args .store))
     ≡ bySequence (c .sequence-of .result) (now (args .bytes)) (args .first) (args .last) (args .link-up) (args .account) (now (args .store))
 unfolding fragment
-in-sequence c =
-    let else2 : _ = c .before in
-    rw (c .sequence-of .ensures)
-    (if-false _ _ _ (le-ltb _ _ (else2 .before .before .if1 .left)) ∙ if-false _ _ _ (le-ltb _ _ (else2 .if2 .left)))
+in-sequence c = rw (c .sequence-of .ensures) (search tests)
 
 single-requires : tie.Need-single-requires
 single-requires c κs = (search needs, search needs, search needs, small (c .before .before .before))
