@@ -14,8 +14,8 @@ ghost use Prim.Native.Nat.{_+_, _≤_};
 ghost use lib.ListN.{length, getD};
 ghost use Rattle.prelude.specs.Parts.{put};
 ghost use Rattle.prelude.specs.Choice.{if_then_else_};
-ghost use Rattle.settings.specs.Record.{settingsIn, withSettings};
-ghost use Rattle.settings.specs.Enable.{numberOf, answered, longForm, shortFormAnswered, longFormAnswered, receiveEnabled};
+ghost use Rattle.settings.specs.Record.{size, keptAt, settingsIn, withSettings};
+ghost use Rattle.settings.specs.Enable.{numberOf, answered, longFormSize, longForm, shortFormAnswered, longFormAnswered, receiveEnabled};
 
 // What became of a Receive Enable, with the answer numbers.
 pub enum Enabled {
@@ -66,7 +66,7 @@ pub fn receive_enable(settings: &mut [u8], bytes: &[u8]) -> Enabled
 }
 
 fn short_form(settings: &mut [u8], control: u8) -> Enabled
-    requires { ⌜ (15 ≤ length (now settings)) × (getD (now settings) 1 0 ≤ 3) ⌝ }
+    requires { ⌜ (size ≤ length (now settings)) × (getD (now settings) keptAt 0 ≤ 3) ⌝ }
     ensures { λ r. ⌜ answered r (now (settings .exit)) ≡ shortFormAnswered (now (settings .entry)) control ⌝ }
 {
     if !is_allowed(control) {
@@ -80,7 +80,7 @@ fn short_form(settings: &mut [u8], control: u8) -> Enabled
 }
 
 fn long_form(settings: &mut [u8], bytes: &[u8]) -> Enabled
-    requires { ⌜ (15 ≤ length (now settings)) × (getD (now settings) 1 0 ≤ 3) × (length (now bytes) ≡ 14) ⌝ }
+    requires { ⌜ (size ≤ length (now settings)) × (getD (now settings) keptAt 0 ≤ 3) × (length (now bytes) ≡ longFormSize) ⌝ }
     ensures { λ r. ⌜ answered r (now (settings .exit)) ≡ longFormAnswered (now (settings .entry)) (now (bytes .entry)) ⌝ }
 {
     if !is_allowed(bytes[0]) {
@@ -91,7 +91,7 @@ fn long_form(settings: &mut [u8], bytes: &[u8]) -> Enabled
 }
 
 fn write_long_form(settings: &mut [u8], bytes: &[u8])
-    requires { ⌜ (15 ≤ length (now settings)) × (getD (now settings) 1 0 ≤ 3) × (length (now bytes) ≡ 14) ⌝ }
+    requires { ⌜ (size ≤ length (now settings)) × (getD (now settings) keptAt 0 ≤ 3) × (length (now bytes) ≡ longFormSize) ⌝ }
     ensures { λ _. ⌜ now (settings .exit) ≡ withSettings (longForm (settingsIn (now (settings .entry))) (now (bytes .entry))) (now (settings .entry)) ⌝ }
 {
     let control = bytes[0];

@@ -89,7 +89,7 @@ fragment bytes first last linkUp a store =
     if ltb (a .maximum) (length bytes) then stored (badLength a) store else
     bySequence (sequenceOf first (a .«open_fragments») (a .«open_bytes»)) bytes first last linkUp a store
 
--- 11
+-- 11: "Receive Enable taken"
 abbrev pub isTaken : Enabled → Bool
 isTaken e = eqb (numberOf e) (numberOf enabled.Taken)
 
