@@ -3,6 +3,7 @@ pub mod Added
 pub mod Commands
 pub mod Frame
 pub mod Keeping
+pub mod Laws
 pub mod Properties
 pub mod Rows
 pub mod Soundness

@@ -1,0 +1,13 @@
+pub mod Answers
+pub mod Contract
+pub mod Counts
+pub mod Demand3
+pub mod Enables
+pub mod Example
+pub mod Follows
+pub mod Holds
+pub mod Ledger
+pub mod Lines
+pub mod Partition
+pub mod Reached
+pub mod Roles
