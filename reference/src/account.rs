@@ -116,8 +116,8 @@ pub fn fresh(maximum: u32) -> (u8, Account) {
 
 /// Whether an account is sound.
 pub fn is_sound(account: &Account) -> bool {
-    u128::from(account.total) == sum_of_lines(account)
-        && account.total <= HIGHEST_TOTAL
+    account.total <= HIGHEST_TOTAL
+        && lines_sound(account)
         && ROWS.iter().all(|fate| row_sound(*fate, account.grid[*fate as usize]))
         && maximum_allowed(account.maximum)
         && open_sound(account)
@@ -127,31 +127,28 @@ fn maximum_allowed(maximum: u64) -> bool {
     (1..=HIGHEST_MAXIMUM).contains(&maximum)
 }
 
-/// All fragments of the grid, and the transactions beside it. It is wide
-/// enough for any numbers.
-fn sum_of_lines(account: &Account) -> u128 {
-    let in_grid: u128 = account.grid.iter().map(|row| u128::from(row[FRAGMENTS])).sum();
-    in_grid
-        + u128::from(account.open_fragments)
-        + u128::from(account.taken)
-        + u128::from(account.refused)
+/// Whether the fragments of the grid and the transactions beside it make up
+/// the total. They are taken from it one after the other, since a sum of any
+/// numbers may not fit.
+fn lines_sound(account: &Account) -> bool {
+    let in_grid = account.grid.iter().map(|row| row[FRAGMENTS]);
+    let beside = [account.open_fragments, account.taken, account.refused];
+    in_grid.chain(beside).try_fold(account.total, u64::checked_sub) == Some(0)
 }
 
+/// Whether a row is sound whose fragments are at most the highest total.
 fn row_sound(fate: Fate, row: [u64; COLUMNS]) -> bool {
     let has_packets = !matches!(fate, Fate::Aborted | Fate::BadLength);
     let has_bytes = fate != Fate::BadLength;
     row[PACKETS] <= row[FRAGMENTS]
-        && at_most(row[BYTES], HIGHEST_MAXIMUM, row[FRAGMENTS])
+        && row[BYTES] <= HIGHEST_MAXIMUM * row[FRAGMENTS]
         && (has_packets || row[PACKETS] == 0)
         && (has_bytes || row[BYTES] == 0)
 }
 
+/// Whether the open packet is sound, its maximum allowed and its fragments at
+/// most the highest total.
 fn open_sound(account: &Account) -> bool {
     account.open_bytes >= account.open_fragments
-        && at_most(account.open_bytes, account.maximum, account.open_fragments)
-}
-
-/// Whether a number of bytes fits into fragments of a size.
-fn at_most(bytes: u64, size: u64, fragments: u64) -> bool {
-    u128::from(bytes) <= u128::from(size) * u128::from(fragments)
+        && account.open_bytes <= account.maximum * account.open_fragments
 }

@@ -1,6 +1,7 @@
 //! Answers cases.
 
 mod carried;
+mod journals;
 mod transactions;
 
 use std::fmt;
@@ -103,6 +104,8 @@ fn answer_case(carried: &mut Carried, case: &str) -> Result<String, Stopped> {
         "send-pattern" => transactions::send_pattern(carried, fields)?,
         "show" => transactions::show(carried, fields)?,
         "packet" => transactions::packet(carried, fields)?,
+        "journal" => journals::journal(fields)?,
+        "print" => journals::print(fields)?,
         _ => return Err("an unknown operation".into()),
     };
     Ok(answer.text())

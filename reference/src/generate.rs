@@ -1,8 +1,11 @@
 //! Generates cases, the same ones in every run.
 
 mod account;
+mod controller;
+mod journals;
 mod lists;
 mod packet;
+mod printouts;
 mod setlink;
 mod settings;
 mod status;
@@ -10,16 +13,38 @@ mod transactions;
 
 use crate::text::Line;
 
+/// A subject by its name, and what adds its cases.
+type Subject = (&'static str, fn(&mut Cases));
+
+/// The subjects in the order of their cases.
+const SUBJECTS: [Subject; 9] = [
+    ("setlink", setlink::generate),
+    ("status", status::generate),
+    ("settings", settings::generate),
+    ("packet", packet::generate),
+    ("account", account::generate),
+    ("transactions", transactions::generate),
+    ("lists", lists::generate),
+    ("journals", journals::generate),
+    ("printouts", printouts::generate),
+];
+
 /// All cases, grouped by subject.
 pub fn cases() -> String {
+    text(&SUBJECTS)
+}
+
+/// The cases of the subject of this name.
+pub fn cases_of(name: &str) -> Option<String> {
+    let subject = SUBJECTS.iter().find(|(its_name, _)| *its_name == name)?;
+    Some(text(&[*subject]))
+}
+
+fn text(subjects: &[Subject]) -> String {
     let mut cases = Cases { text: String::new() };
-    setlink::generate(&mut cases);
-    status::generate(&mut cases);
-    settings::generate(&mut cases);
-    packet::generate(&mut cases);
-    account::generate(&mut cases);
-    transactions::generate(&mut cases);
-    lists::generate(&mut cases);
+    for (_, generate) in subjects {
+        generate(&mut cases);
+    }
     cases.text
 }
 

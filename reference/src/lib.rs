@@ -1,15 +1,19 @@
 //! The rules of the I210 management bus translator, written in plain Rust as
 //! a second opinion: its answers are compared with those of the translator.
 //!
-//! Nothing here allocates or keeps state of its own; accounts, stores, records
-//! and blocks are lent by the caller.
+//! Nothing that replays allocates or keeps state of its own; accounts, stores,
+//! records, blocks and journals are the caller's. What checks it, the history
+//! and the listing of a journal, works on lists.
 
 #![forbid(unsafe_code)]
 
 pub mod account;
 pub mod answer_numbers;
 pub mod history;
+pub mod journal;
+pub mod listing;
 pub mod packet;
+pub mod printout;
 pub mod setlink;
 pub mod settings;
 pub mod status;

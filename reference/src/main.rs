@@ -1,4 +1,4 @@
-//! Generates test cases and answers them.
+//! Generates test cases and answers them, and prints the account of a journal.
 //!
 //! Cases are ASCII lines ended by a line feed. An empty line and a line that
 //! starts with `#` are copied to the answers. Every other line is an operation
@@ -28,6 +28,8 @@
 //! | `send-pattern COMMAND/1 LINK/1 SIZE/2 SEED/1` | as for `send` |
 //! | `show` | `ACCOUNT SETTINGS` |
 //! | `packet LENGTH/8` | `LENGTH/2 DIGEST/4` |
+//! | `journal PIECE/2 JOURNAL` | `PRINTOUT` |
+//! | `print ACCOUNT ROOM/2` | `LENGTH/2 BUFFER` |
 //!
 //! The medium is 00 for copper and 01 for fibre. `links` judges COUNT words
 //! from FROM on, each with the same word in force: host driver absent on
@@ -54,53 +56,113 @@
 //! store. Where the account that was given was fresh, every transaction is
 //! compared with the history, and the program stops if they disagree.
 //!
+//! `journal` reads a journal in pieces of PIECE bytes, of which the last may be
+//! shorter, or whole where PIECE is zero; the answer is all that is printed of
+//! it. It is compared with the history of the journal's list, and the program
+//! stops if they disagree. `print` prints an account into a buffer of ROOM
+//! bytes, at most 2048, that has the pattern of the seed aa before; the answer
+//! is the length of the printout, zero where nothing is printed, and the whole
+//! buffer afterwards.
+//!
 //! A digest starts from 1 and becomes (257 * digest + byte) mod 4294967291 with
 //! each byte.
 
 #![forbid(unsafe_code)]
 
 mod answer;
+mod bench_journal;
 mod generate;
+mod pattern;
+mod print_account;
 mod random;
 mod text;
 
 use std::env;
 use std::ffi::OsString;
 use std::io::{self, BufWriter, Write};
+use std::path::Path;
 use std::process::ExitCode;
 
-const USAGE: &str = "usage: reference generate | reference answer";
+use self::bench_journal::Kind;
+
+const USAGE: &str = "\
+usage: reference generate [SUBJECT]
+       reference answer
+       reference account [FILE]
+       reference bench-journal KIND BYTES
+       reference --help";
+
+const HELP: &str = "
+generate       prints all test cases, or those of a subject: setlink, status,
+               settings, packet, account, transactions, lists, journals,
+               printouts
+answer         reads test cases on standard input and prints their answers
+account        reads a journal, from standard input where no file is named, and
+               prints its account, or `bad journal` alone
+bench-journal  prints a journal of about so many bytes to measure with; KIND is
+               fragments-240, fragments-20 or commands
+
+Exit status: 0 if all went well; 1 if a journal is bad, a line is no test case,
+or something cannot be read or written, which is told on standard error; 2 for
+arguments that are none of these.";
+
 const EXIT_FAILURE: u8 = 1;
 const EXIT_USAGE: u8 = 2;
 
 fn main() -> ExitCode {
     let arguments: Vec<OsString> = env::args_os().skip(1).collect();
-    let result = match arguments.as_slice() {
-        [mode] if mode == "generate" => print_cases(),
-        [mode] if mode == "answer" => print_answers(),
-        _ => {
+    match run(&arguments) {
+        None => {
             eprintln!("{USAGE}");
-            return ExitCode::from(EXIT_USAGE);
+            ExitCode::from(EXIT_USAGE)
         }
-    };
-    match result {
-        Ok(()) => ExitCode::SUCCESS,
-        Err(message) => {
+        Some(Ok(true)) => ExitCode::SUCCESS,
+        Some(Ok(false)) => ExitCode::from(EXIT_FAILURE),
+        Some(Err(message)) => {
             eprintln!("{message}");
             ExitCode::from(EXIT_FAILURE)
         }
     }
 }
 
-fn print_cases() -> Result<(), String> {
-    io::stdout()
-        .write_all(generate::cases().as_bytes())
-        .map_err(|error| format!("standard output: {error}"))
+/// Does what the arguments ask for, and gives whether all was well; nothing
+/// where they ask for nothing that there is.
+fn run(arguments: &[OsString]) -> Option<Result<bool, String>> {
+    let (mode, rest) = arguments.split_first()?;
+    let result = match (mode.to_str()?, rest) {
+        ("generate", []) => print_text(&generate::cases()),
+        ("generate", [subject]) => print_text(&generate::cases_of(subject.to_str()?)?),
+        ("answer", []) => print_answers(),
+        ("account", []) => return Some(print_account::print_account(None)),
+        ("account", [file]) => return Some(print_account::print_account(Some(Path::new(file)))),
+        ("bench-journal", [kind, bytes]) => {
+            let kind = Kind::named(kind.to_str()?)?;
+            print_journal(kind, bytes.to_str()?.parse().ok()?)
+        }
+        ("--help", []) => print_text(&format!("{USAGE}\n{HELP}\n")),
+        _ => return None,
+    };
+    Some(result.map(|()| true))
+}
+
+fn print_text(text: &str) -> Result<(), String> {
+    io::stdout().write_all(text.as_bytes()).map_err(not_printed)
 }
 
 fn print_answers() -> Result<(), String> {
     let mut output = BufWriter::new(io::stdout().lock());
     let result = answer::answer_all(&mut io::stdin().lock(), &mut output);
-    output.flush().map_err(|error| format!("standard output: {error}"))?;
+    output.flush().map_err(not_printed)?;
     result
+}
+
+fn print_journal(kind: Kind, bytes: u64) -> Result<(), String> {
+    let mut output = BufWriter::new(io::stdout().lock());
+    bench_journal::write(kind, bytes, &mut output)
+        .and_then(|()| output.flush())
+        .map_err(not_printed)
+}
+
+fn not_printed(error: io::Error) -> String {
+    format!("standard output: {error}")
 }

@@ -30,6 +30,9 @@ pub const CBDM: u8 = 1 << 7;
 
 /// The control byte of a fresh record.
 pub const FRESH_CONTROL: u8 = MUST_BE_ONE;
+/// A fresh record.
+pub const FRESH_RECORD: [u8; RECORD_BYTES] =
+    [FRESH_CONTROL, 0, 0, 0, 0, 0, 0, 0, 0, 0, 0, 0, 0, 0, 0];
 
 /// Second byte of the record: a MAC address is kept.
 pub const MAC_KEPT: u8 = 1 << 0;
@@ -77,8 +80,7 @@ pub fn fresh(record: &mut [u8]) -> u8 {
     if record.len() < RECORD_BYTES {
         return TOO_SHORT;
     }
-    record[..RECORD_BYTES].fill(0);
-    record[RECORD_CONTROL] = FRESH_CONTROL;
+    record[..RECORD_BYTES].copy_from_slice(&FRESH_RECORD);
     DONE
 }
 

@@ -43,6 +43,18 @@ const CLASSES: [(u8, Class); 5] = [
     (RECEIVE_ENABLE, Class::ReceiveEnable),
 ];
 
+/// The class of every command, so that no transaction searches for it.
+const CLASS_OF: [Class; 256] = {
+    let mut class_of = [Class::Unknown; 256];
+    let mut place = 0;
+    while place < CLASSES.len() {
+        let (command, class) = CLASSES[place];
+        class_of[command as usize] = class;
+        place += 1;
+    }
+    class_of
+};
+
 /// Does one transaction: the answer, and the sent length, which is zero unless
 /// a packet is sent.
 pub fn transact(
@@ -63,18 +75,11 @@ pub fn transact(
         return (ACCOUNT_FULL, 0);
     }
     account.total += 1;
-    match class_of(command) {
+    match CLASS_OF[usize::from(command)] {
         Class::Fragment => fragment(account, store, command, data, link_up),
         Class::ReceiveEnable => (receive_enable(account, settings, data), 0),
         Class::Unknown => (unknown(account, command), 0),
     }
-}
-
-fn class_of(command: u8) -> Class {
-    CLASSES
-        .iter()
-        .find(|(number, _)| *number == command)
-        .map_or(Class::Unknown, |(_, class)| *class)
 }
 
 fn fragment(

@@ -5,8 +5,20 @@ use std::process::{Command, Output, Stdio};
 use std::thread;
 
 /// The most bytes of cases and answers together.
-const MOST_BYTES: usize = 3_500_000;
+const MOST_BYTES: usize = 5_500_000;
 const LONGEST_LINE: usize = 8000;
+
+const SUBJECTS: [&str; 9] = [
+    "setlink",
+    "status",
+    "settings",
+    "packet",
+    "account",
+    "transactions",
+    "lists",
+    "journals",
+    "printouts",
+];
 
 fn run(arguments: &[&str], input: &[u8]) -> Output {
     let mut child = Command::new(env!("CARGO_BIN_EXE_reference"))
@@ -35,7 +47,18 @@ fn answers(cases: &str) -> String {
 }
 
 fn generated() -> String {
-    let output = run(&["generate"], b"");
+    cases_of(&["generate"])
+}
+
+/// The cases of a subject and their answers.
+fn answered(subject: &str) -> (String, String) {
+    let cases = cases_of(&["generate", subject]);
+    let answers = answers(&cases);
+    (cases, answers)
+}
+
+fn cases_of(arguments: &[&str]) -> String {
+    let output = run(arguments, b"");
     assert!(output.status.success());
     String::from_utf8(output.stdout).expect("cases are ASCII")
 }
@@ -197,6 +220,8 @@ fn lines_that_are_no_case() {
     let short_account = format!("sound-account {}", &zeros[2..]);
     let long_account = format!("sound-account {zeros}00");
     let large_store = format!("start {zeros} 0801 00 -");
+    let large_room = format!("print {zeros} 0801");
+    let no_room = format!("print {zeros}");
     let long_settings = format!("start {zeros} 0800 00 {}", "00".repeat(65));
     let lines = [
         "unknown 00",
@@ -233,6 +258,12 @@ fn lines_that_are_no_case() {
         "send-pattern 84 01 0801 00",
         "show -",
         "packet 40",
+        "journal 00 -",
+        "journal 0000",
+        "journal 0000 - -",
+        "print - 0000",
+        &large_room,
+        &no_room,
         &too_long,
         &long_name,
     ];
@@ -265,7 +296,24 @@ fn the_longest_lines_are_taken() {
 
 #[test]
 fn anything_else_is_answered_with_usage() {
-    for arguments in [&[][..], &["help"], &["generate", "generate"], &["answer", "file"], &[""]] {
+    let wrong: [&[&str]; 15] = [
+        &[],
+        &["help"],
+        &["generate", "generate"],
+        &["generate", "journals", "printouts"],
+        &["answer", "file"],
+        &["account", "file", "file"],
+        &["bench-journal"],
+        &["bench-journal", "commands"],
+        &["bench-journal", "fragments-30", "100"],
+        &["bench-journal", "commands", "-1"],
+        &["bench-journal", "commands", "100k"],
+        &["bench-journal", "commands", "100", "100"],
+        &["--help", "--help"],
+        &["--version"],
+        &[""],
+    ];
+    for arguments in wrong {
         let output = run(arguments, b"");
         assert_eq!(output.status.code(), Some(2), "{arguments:?}");
         assert!(output.stdout.is_empty());
@@ -274,9 +322,22 @@ fn anything_else_is_answered_with_usage() {
 }
 
 #[test]
+fn help_is_printed() {
+    let output = run(&["--help"], b"");
+    assert!(output.status.success());
+    assert!(output.stdout.starts_with(b"usage: "));
+    assert!(output.stderr.is_empty());
+    let help = String::from_utf8(output.stdout).expect("help is ASCII");
+    assert!(help.lines().all(|line| line.len() <= 80));
+    assert!(SUBJECTS.iter().all(|subject| help.contains(subject)));
+}
+
+#[test]
 fn generated_cases_are_the_same_each_time_and_all_are_answered() {
-    let cases = generated();
-    assert_eq!(cases, generated());
+    assert_eq!(generated(), generated());
+    let all_subjects = || SUBJECTS.map(|subject| cases_of(&["generate", subject])).concat();
+    let cases = all_subjects();
+    assert_eq!(cases, all_subjects());
     let answers = answers(&cases);
     assert!(cases.len() + answers.len() < MOST_BYTES);
     assert_eq!(cases.lines().count(), answers.lines().count());
@@ -364,4 +425,147 @@ fn named_accounts_are_as_sound_as_their_names_say() {
         named += 1;
     }
     assert!(named > 200, "{named}");
+}
+
+/// The digits of the bytes of a text.
+fn digits(text: &str) -> String {
+    text.bytes().map(|byte| format!("{byte:02x}")).collect()
+}
+
+const HEADING: &str = "fate packets fragments bytes\n";
+
+#[test]
+fn answers_about_journals() {
+    let zeros = "sent 0 0 0\nsuperseded 0 0 0\nflushed 0 0 0\nbroken 0 0 0\nover 0 0 0\n\
+                 short 0 0 0\nlinkdown 0 0 0\naborted 0 0 0\nbadlength 0 0 0\nopen 0 0 0\n\
+                 taken 0\nrefused 0\ntotal 0\n";
+    let zeros = digits(&format!("{HEADING}{zeros}"));
+    let bad = digits("bad journal\n");
+    for (case, answer) in [
+        ("journal 0000 54434f0100f0", &zeros),
+        ("journal 0001 54434f0100f0", &zeros),
+        ("journal ffff 54434f0100f0", &zeros),
+        ("journal 0000 54434f0100f1", &bad),
+        ("journal 0000 54434f0100", &bad),
+        ("journal 0002 54434f010020c40201ff", &bad),
+        ("journal 0000 -", &bad),
+    ] {
+        assert_eq!(answers(&format!("{case}\n")), format!("{answer}\n"), "{case}");
+    }
+    // A header alone and one room for all of its printout, then a byte less.
+    let length = zeros.len() / 2;
+    let pattern = |from: usize, to: usize| -> String {
+        pattern(to, 0xaa)[from..].iter().map(|byte| format!("{byte:02x}")).collect()
+    };
+    let account = account(&[(0, 240)]);
+    for (room, answer) in [
+        (length, format!("{length:04x} {zeros}")),
+        (length + 2, format!("{length:04x} {zeros}{}", pattern(length, length + 2))),
+        (length - 1, format!("0000 {}", pattern(0, length - 1))),
+        (0, "0000 -".to_string()),
+    ] {
+        let case = format!("print {account} {room:04x}");
+        assert_eq!(answers(&format!("{case}\n")), format!("{answer}\n"), "room {room}");
+    }
+    let unsound = format!("print {} 0003", self::account(&[(0, 241)]));
+    assert_eq!(answers(&format!("{unsound}\n")), "0000 aab1b8\n");
+}
+
+#[test]
+fn named_journals_are_as_good_as_their_names_say() {
+    let (cases, answers) = answered("journals");
+    let bad = digits("bad journal\n");
+    let mut name = "";
+    let (mut good_named, mut bad_named) = (0, 0);
+    for (case, answer) in cases.lines().zip(answers.lines()) {
+        if case.is_empty() || case.starts_with('#') {
+            name = case;
+        } else if name.ends_with(": an account") {
+            assert!(answer.starts_with(&digits(HEADING)), "{name}");
+            good_named += 1;
+        } else if name.ends_with(": bad journal") {
+            assert_eq!(answer, bad, "{name}");
+            bad_named += 1;
+        }
+    }
+    assert!(good_named > 50 && bad_named > 80, "{good_named} {bad_named}");
+}
+
+#[test]
+fn named_printouts_are_as_their_names_say() {
+    let (cases, answers) = answered("printouts");
+    let mut expected: Vec<bool> = Vec::new();
+    let mut named = 0;
+    for (case, answer) in cases.lines().zip(answers.lines()) {
+        if let Some(name) = case.strip_prefix('#') {
+            assert!(expected.is_empty());
+            expected = match name.rsplit_once(": ") {
+                Some((_, "nothing, printed, printed")) => vec![true, true, false],
+                Some((_, "nothing")) => vec![false],
+                _ => Vec::new(),
+            };
+        } else if let Some(printed) = expected.pop() {
+            assert_eq!(answer.starts_with("0000 "), !printed, "{case}");
+            named += 1;
+        }
+    }
+    assert!(named > 300, "{named}");
+}
+
+/// A file that holds these bytes.
+fn file(name: &str, bytes: &[u8]) -> String {
+    let path = format!("{}/{name}", env!("CARGO_TARGET_TMPDIR"));
+    std::fs::write(&path, bytes).expect("a file is written");
+    path
+}
+
+#[test]
+fn accounts_of_files_and_of_standard_input() {
+    let journal = b"TCO\x01\x00\x20\x84\x01\x02\x11\x22\x05\x00\x00";
+    let path = file("good-journal", journal);
+    for output in [run(&["account", &path], b""), run(&["account"], journal)] {
+        assert!(output.status.success());
+        assert!(output.stderr.is_empty());
+        let text = String::from_utf8(output.stdout).expect("an account is ASCII");
+        assert!(text.starts_with(HEADING));
+        assert!(text.ends_with("\nopen 1 1 2\ntaken 0\nrefused 1\ntotal 2\n"));
+    }
+    let path = file("bad-journal", &journal[..journal.len() - 1]);
+    for output in [run(&["account", &path], b""), run(&["account"], b"")] {
+        assert_eq!(output.status.code(), Some(1));
+        assert_eq!(output.stdout, b"bad journal\n");
+        assert!(output.stderr.is_empty());
+    }
+}
+
+#[test]
+fn files_that_cannot_be_read() {
+    let folder = env!("CARGO_TARGET_TMPDIR");
+    let missing = format!("{folder}/no-such-journal");
+    for path in [&missing, folder] {
+        let output = run(&["account", path], b"");
+        assert_eq!(output.status.code(), Some(1));
+        assert!(output.stdout.is_empty());
+        let message = String::from_utf8_lossy(&output.stderr);
+        assert!(message.starts_with(&format!("{path}: ")), "{message}");
+    }
+}
+
+#[test]
+fn journals_to_measure_with() {
+    for (kind, line) in
+        [("fragments-240", "sent "), ("fragments-20", "sent "), ("commands", "aborted 0 ")]
+    {
+        let journal = run(&["bench-journal", kind, "1000000"], b"");
+        assert!(journal.status.success());
+        assert!((1_000_000..1_010_000).contains(&journal.stdout.len()), "{kind}");
+        let output = run(&["account"], &journal.stdout);
+        assert!(output.status.success(), "{kind}");
+        let text = String::from_utf8(output.stdout).expect("an account is ASCII");
+        let counted = text.lines().find_map(|text| text.strip_prefix(line));
+        assert!(counted.is_some_and(|counted| !counted.starts_with("0 ")), "{text}");
+        assert!(text.contains("\nopen 0 0 0\n"), "{text}");
+    }
+    let header = run(&["bench-journal", "commands", "0"], b"");
+    assert_eq!(header.stdout, b"TCO\x01\x00\xf0");
 }

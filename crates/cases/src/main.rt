@@ -45,6 +45,10 @@
 //         ACCOUNT/264 SETTINGS
 //     packet LENGTH/8
 //         LENGTH/2 DIGEST/4
+//     journal PIECE/2 JOURNAL
+//         PRINTOUT
+//     print ACCOUNT/264 ROOM/2
+//         LENGTH/2 BUFFER
 //
 // The media is 00 for copper and 01 for fibre, and the source 00 for nowhere, 01 for the settings
 // and 02 for Flash.
@@ -65,6 +69,10 @@
 // transaction on what is carried, and the digests are those after it. `show` and `packet` show what
 // is carried.
 //
+// A journal is fed in pieces of PIECE bytes, or whole where that is 0, and its outcome is printed.
+// `print` prints into a buffer of ROOM bytes, at most 2048, which is a pattern with the seed aa
+// before.
+//
 // Any other line is answered by the line `not a case`, and so is what stands behind the last line
 // feed.
 mod account;
@@ -76,6 +84,7 @@ mod fields;
 mod link;
 mod number;
 mod pattern;
+mod printed;
 mod settings_record;
 mod status_block;
 mod store;
@@ -208,6 +217,10 @@ fn put_fields(bytes: &Buffer, ends: &[usize], carried: &mut Buffer, text: &mut B
         return end;
     }
     let end = account::answer(bytes, ends, text);
+    if end != NOT_A_CASE {
+        return end;
+    }
+    let end = printed::answer(bytes, ends, text);
     if end != NOT_A_CASE {
         return end;
     }

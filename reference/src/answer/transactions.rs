@@ -6,6 +6,7 @@ use reference::packet;
 
 use super::carried::Carried;
 use super::{digest, Stopped};
+use crate::pattern::pattern;
 use crate::text::{Fields, Line, NotACase};
 
 /// The largest store that is carried, and the most data made by a pattern.
@@ -13,7 +14,6 @@ const MOST_BYTES: u16 = 2048;
 /// The longest settings that are carried.
 const MOST_SETTINGS: usize = 64;
 
-const PATTERN_STEP: u8 = 7;
 const NUMBER_BYTES: usize = 8;
 const ACCOUNT_BYTES: usize = NUMBERS * NUMBER_BYTES;
 
@@ -122,14 +122,15 @@ fn store(fields: &mut Fields) -> Result<Vec<u8>, NotACase> {
 fn limited_pattern(fields: &mut Fields) -> Result<Vec<u8>, NotACase> {
     let size = fields.u16()?;
     let seed = fields.u8()?;
+    limited(size, seed)
+}
+
+/// The bytes of a pattern that is not too long.
+pub fn limited(size: u16, seed: u8) -> Result<Vec<u8>, NotACase> {
     if size > MOST_BYTES {
         return Err("a pattern that is too long");
     }
     Ok(pattern(size, seed))
-}
-
-fn pattern(size: u16, seed: u8) -> Vec<u8> {
-    (0..size).map(|place| seed.wrapping_add(PATTERN_STEP.wrapping_mul(place as u8))).collect()
 }
 
 fn part(part: &[u8]) -> Line {
@@ -137,7 +138,8 @@ fn part(part: &[u8]) -> Line {
     Line::answer().u16(part.len() as u16).u32(digest(part))
 }
 
-fn account(fields: &mut Fields) -> Result<Account, NotACase> {
+/// Takes an account.
+pub fn account(fields: &mut Fields) -> Result<Account, NotACase> {
     let bytes = fields.bytes()?;
     if bytes.len() != ACCOUNT_BYTES {
         return Err("an account of the wrong size");

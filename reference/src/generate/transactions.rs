@@ -7,8 +7,10 @@ mod worked;
 use std::iter;
 
 use super::{account, Cases};
+use crate::pattern::pattern;
 use crate::text::Line;
 use reference::account::Account;
+use reference::history::Transaction;
 use reference::settings::RECORD_BYTES;
 
 /// The size of a store that is just large enough.
@@ -51,6 +53,18 @@ pub fn generate(cases: &mut Cases) {
     sweeps::generate(cases);
 }
 
+/// The lists that show each rule by an example: name, fragment maximum and
+/// transactions.
+pub fn named_lists() -> impl Iterator<Item = (&'static str, u32, Vec<Transaction>)> {
+    let transaction = |(send, seed): (Send, u8)| Transaction {
+        command: send.command,
+        data: pattern(send.size, seed),
+        link_up: send.link_up,
+    };
+    worked::lists()
+        .map(move |(name, maximum, list)| (name, maximum, seeded(list).map(transaction).collect()))
+}
+
 /// A transaction of so many bytes with the link up, and its answer.
 const fn up(command: u8, size: u16, answer: u8) -> Send {
     Send { command, link_up: true, size, control: None, answer, times: 1 }
@@ -82,10 +96,17 @@ fn answers(list: &[Send]) -> String {
 }
 
 fn sends(cases: &mut Cases, list: &[Send]) {
-    for (place, send) in single(list).enumerate() {
-        let seed = send.control.unwrap_or((SEED_STEP * (place + 1)) as u8);
+    for (send, seed) in seeded(list) {
         cases.case(send_pattern(send.command, send.link_up, send.size, seed));
     }
+}
+
+/// The transactions of a list with the seeds of their data.
+fn seeded(list: &[Send]) -> impl Iterator<Item = (Send, u8)> + '_ {
+    single(list).enumerate().map(|(place, send)| {
+        let seed = send.control.unwrap_or((SEED_STEP * (place + 1)) as u8);
+        (send, seed)
+    })
 }
 
 /// The transactions of a list, each as often as it comes.

@@ -432,25 +432,32 @@ const DISCARDED: [Named; 8] = [
     ("65 bytes: sent, sent length 65, no fill", 240, &[up(0xc4, 65, 1)]),
 ];
 
+/// The lists, grouped by title.
+const GROUPS: [(&str, &[Named]); 7] = [
+    ("Transactions: worked examples", &WORKED),
+    ("Transactions: slips that have been made", &SLIPS),
+    ("Transactions: First and Last", &SEQUENCE),
+    ("Transactions: flush", &FLUSH),
+    ("Transactions: fragment lengths", &LENGTHS),
+    ("Transactions: packets past 1536 bytes", &PAST),
+    ("Transactions: short packets and the link", &DISCARDED),
+];
+
 /// Adds the cases of this subject.
 pub fn generate(cases: &mut Cases) {
     before_any_start(cases);
-    for (title, lists) in [
-        ("Transactions: worked examples", &WORKED[..]),
-        ("Transactions: slips that have been made", &SLIPS),
-        ("Transactions: First and Last", &SEQUENCE),
-        ("Transactions: flush", &FLUSH),
-        ("Transactions: fragment lengths", &LENGTHS),
-        ("Transactions: packets past 1536 bytes", &PAST),
-        ("Transactions: short packets and the link", &DISCARDED),
-    ] {
+    for (title, lists) in GROUPS {
         cases.group(title);
-        for list in lists {
-            let (name, maximum, list) = *list;
-            list_from_fresh(cases, name, maximum, list);
+        for (name, maximum, list) in lists {
+            list_from_fresh(cases, name, *maximum, list);
             cases.case(packet(64));
         }
     }
+}
+
+/// All lists of this subject.
+pub fn lists() -> impl Iterator<Item = Named> {
+    GROUPS.into_iter().flat_map(|(_, lists)| lists.iter().copied())
 }
 
 /// What is carried before anything was given: zeros, no store, no settings.

@@ -1,0 +1,59 @@
+-- What a good header says, and the fresh account for its maximum.
+-- Assumes nothing.
+use Prim.Native.Nat.{ℕ, _≤_}
+use mathlib.Core.Bool.{true}
+use mathlib.Core.List.{List}
+use mathlib.Core.Path.{_≡_, ap, _∙_}
+use native.Mathlib.Omega.{arith}
+use lib.ListN.{length, getD}
+use borrow.Author.Tests.{ltb-false, le-ltb}
+use Rattle.prelude.proofs.Tests.{if-false, if-cases}
+use Rattle.state.specs.Account.{freshAccount, made}
+use Rattle.state.specs.declared.Made.{Made}
+use Rattle.journal.specs.Format.{isMarked, headerIn}
+use Rattle.journal.specs.declared.format.Header.{Header}
+use Rattle.journal.specs.declared.format.Header.the-variants as header
+
+pub record Good (bytes : List ℕ) (maximum : ℕ) : Type 0 where
+  pub long : 6 ≤ length bytes
+  pub marked : isMarked bytes ≡ true
+  pub has : getD bytes 5 0 ≡ maximum
+  pub least : 1 ≤ maximum
+  pub most : maximum ≤ 240
+
+pub good : (bytes : List ℕ) (maximum : ℕ) → headerIn bytes ≡ header.Maximum maximum → Good bytes maximum
+unfolding headerIn
+good bytes maximum =
+    if-cases P _ _ _ (λ _ e. absurd (never-cut e))
+    (λ long. if-cases P _ _ _
+    (λ marked. if-cases P _ _ _ (λ _ e. absurd (never-bad e))
+    (λ least. if-cases P _ _ _ (λ _ e. absurd (never-bad e))
+    (λ most e.
+    let h : getD bytes 5 0 ≡ maximum = cc in
+    record { long = omega (arith, ltb-false); marked = marked; has = h; least = omega (arith, ltb-false); most = omega (arith, ltb-false) })))
+    (λ _ e. absurd (never-bad e)))
+  where
+    P : Header → Type 0
+    P found = found ≡ header.Maximum maximum → Good bytes maximum
+
+    never-cut : header.Cut ≡ header.Maximum maximum → ⊥
+    never-cut e = let z : _≡_ {A = ℕ} 0 1 = cc in omega arith
+
+    never-bad : header.Bad ≡ header.Maximum maximum → ⊥
+    never-bad e = let z : _≡_ {A = ℕ} 0 1 = cc in omega arith
+
+-- a bad header is all there
+pub bad-long : (bytes : List ℕ) → headerIn bytes ≡ header.Bad → 6 ≤ length bytes
+unfolding headerIn
+bad-long bytes = if-cases P _ _ _ (λ _ e. absurd (never e)) (λ long _. ltb-false _ _ long)
+  where
+    P : Header → Type 0
+    P found = found ≡ header.Bad → 6 ≤ length bytes
+
+    never : header.Cut ≡ header.Bad → ⊥
+    never e = let z : _≡_ {A = ℕ} 0 1 = cc in omega arith
+
+pub made-good : (maximum : ℕ) → 1 ≤ maximum → maximum ≤ 240 → made maximum .account ≡ freshAccount maximum
+unfolding made
+made-good maximum least most =
+    ap (λ (m : Made). m .account) (if-false _ _ _ (le-ltb maximum 1 least) ∙ if-false _ _ _ (le-ltb 240 maximum most))
