@@ -14,6 +14,7 @@ pub mod journal;
 pub mod listing;
 pub mod packet;
 pub mod printout;
+pub mod random;
 pub mod setlink;
 pub mod settings;
 pub mod status;

@@ -74,7 +74,6 @@ mod bench_journal;
 mod generate;
 mod pattern;
 mod print_account;
-mod random;
 mod text;
 
 use std::env;
@@ -82,6 +81,8 @@ use std::ffi::OsString;
 use std::io::{self, BufWriter, Write};
 use std::path::Path;
 use std::process::ExitCode;
+
+use reference::random;
 
 use self::bench_journal::Kind;
 

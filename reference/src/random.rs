@@ -11,8 +11,8 @@ impl Random {
         Random { state: seed }
     }
 
-    /// The next 64 bits.
-    pub fn next(&mut self) -> u64 {
+    /// Any 64 bit number.
+    pub fn u64(&mut self) -> u64 {
         self.state = self.state.wrapping_add(0x9e37_79b9_7f4a_7c15);
         let mut z = self.state;
         z = (z ^ (z >> 30)).wrapping_mul(0xbf58_476d_1ce4_e5b9);
@@ -22,7 +22,7 @@ impl Random {
 
     /// A number from zero up to, but without, the limit.
     pub fn below(&mut self, limit: u64) -> u64 {
-        self.next() % limit
+        self.u64() % limit
     }
 
     /// True once in so many times on average.
@@ -32,17 +32,17 @@ impl Random {
 
     /// Any byte.
     pub fn byte(&mut self) -> u8 {
-        self.next() as u8
+        self.u64() as u8
     }
 
     /// Any 16 bit number.
     pub fn u16(&mut self) -> u16 {
-        self.next() as u16
+        self.u64() as u16
     }
 
     /// Any 32 bit number.
     pub fn u32(&mut self) -> u32 {
-        self.next() as u32
+        self.u64() as u32
     }
 
     /// So many bytes of any value.

@@ -13,6 +13,7 @@ pub enum Media {
 
 // What Set Link is answered, with a response and a reason code of DSP0222, and the word in force
 // from then on.
+#[repr(C)]
 pub struct Decision {
     pub response: u16,
     pub reason: u16,

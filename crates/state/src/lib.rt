@@ -5,6 +5,7 @@ ghost use Rattle.state.specs.Account.{rows, freshAccount, made};
 ghost use Rattle.state.specs.Sound.{countsSound, rowSound, rowsSound, singlesSound, sumHolds, sound};
 
 // Any numbers may be handed in; is_sound tells those that an account can hold.
+#[repr(C)]
 pub struct Account {
     // The most data bytes of a fragment, 1 to MAX_MAXIMUM.
     pub maximum: u64,
@@ -21,6 +22,7 @@ pub struct Account {
 }
 
 // A fresh account, and the answer: 0, or 16 with the account for MAX_MAXIMUM.
+#[repr(C)]
 pub struct Made {
     pub answer: u32,
     pub account: Account,

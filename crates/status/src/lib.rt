@@ -5,6 +5,7 @@ ghost use Prim.Native.Nat.{_+_, _*_, _≤_};
 ghost use Rattle.status.specs.Block.{indexAllowed, allowed, flag, mngStatus, written, parsedWords, parsed};
 
 // What a block holds. The length counts the packet's four check bytes.
+#[repr(C)]
 pub struct Fields {
     pub length: u16,
     pub vlan: u16,
@@ -15,12 +16,14 @@ pub struct Fields {
 }
 
 // The answer is 0, or 15 with eight zero bytes where the fields are not allowed.
+#[repr(C)]
 pub struct Written {
     pub answer: u32,
     pub block: [u8; 8],
 }
 
 // The answer is 0, or 15 with all fields zero where the bytes are no block.
+#[repr(C)]
 pub struct Parsed {
     pub answer: u32,
     pub fields: Fields,

@@ -328,7 +328,7 @@ fn random(cases: &mut Cases) {
     let mut random = Random::new(SEED);
     cases.group("Account: any random numbers");
     for _ in 0..20 {
-        let numbers = std::array::from_fn(|_| random.next());
+        let numbers = std::array::from_fn(|_| random.u64());
         cases.case(sound_account(&Account::of_numbers(numbers)));
     }
     cases.group("Account: random ones that are sound");

@@ -239,11 +239,11 @@ fn random(cases: &mut Cases) {
         cases.group(&format!("Journals: random ones for maximum {maximum}"));
         for number in 0..15 {
             let calm = CALM[number % CALM.len()];
-            let journal = plausible(random.next(), maximum, calm, MOST_BYTES_OF_SHORT);
+            let journal = plausible(random.u64(), maximum, calm, MOST_BYTES_OF_SHORT);
             cases.case(case(random.pick(&PIECES), &journal));
         }
         for calm in CALM {
-            let journal = plausible(random.next(), maximum, calm, MOST_BYTES);
+            let journal = plausible(random.u64(), maximum, calm, MOST_BYTES);
             cases.case(case(random.pick(&PIECES), &journal));
         }
     }
@@ -255,7 +255,7 @@ fn random(cases: &mut Cases) {
     }
     cases.group("Journals: random ones for maximum 32 with one byte changed");
     for _ in 0..120 {
-        let mut journal = plausible(random.next(), 32, 10, MOST_BYTES_OF_SHORT);
+        let mut journal = plausible(random.u64(), 32, 10, MOST_BYTES_OF_SHORT);
         let place = random.below(journal.len() as u64) as usize;
         journal[place] ^= 1 << random.below(8);
         cases.case(case(random.pick(&PIECES), &journal));

@@ -37,7 +37,7 @@ pub fn generate(cases: &mut Cases) {
         settings[0] = random.pick(&[0x40, 0x41, 0x49, 0x51, 0x69]);
         settings[1] = random.below(4) as u8;
         cases.case(start(&account, STORE_BYTES, &settings));
-        random_list(cases, random.next(), account.maximum, USUAL_CALM, 60);
+        random_list(cases, random.u64(), account.maximum, USUAL_CALM, 60);
     }
     nothing_changes(cases, &mut random);
 }
@@ -52,20 +52,20 @@ fn nothing_changes(cases: &mut Cases, random: &mut Random) {
         let (name, account) = pick(random, &unsound);
         cases.group(&format!("Lists: account not sound, {name}: nothing changes"));
         cases.case(start(&account, STORE_BYTES, &FRESH_SETTINGS));
-        random_list(cases, random.next(), account.maximum.clamp(1, 240), USUAL_CALM, 30);
+        random_list(cases, random.u64(), account.maximum.clamp(1, 240), USUAL_CALM, 30);
     }
     for _ in 0..4 {
         let (name, account) = pick(random, &full);
         cases.group(&format!("Lists: {name}: nothing changes"));
         cases.case(start(&account, STORE_BYTES, &FRESH_SETTINGS));
-        random_list(cases, random.next(), account.maximum, USUAL_CALM, 30);
+        random_list(cases, random.u64(), account.maximum, USUAL_CALM, 30);
     }
     cases.group("Lists: store of 1535 bytes: nothing changes");
     cases.case(start(&fresh(32).1, STORE_BYTES - 1, &FRESH_SETTINGS));
-    random_list(cases, random.next(), 32, USUAL_CALM, 30);
+    random_list(cases, random.u64(), 32, USUAL_CALM, 30);
     cases.group("Lists: settings of 14 bytes: nothing changes");
     cases.case(start(&fresh(32).1, STORE_BYTES, &FRESH_SETTINGS[..14]));
-    random_list(cases, random.next(), 32, USUAL_CALM, 30);
+    random_list(cases, random.u64(), 32, USUAL_CALM, 30);
 }
 
 fn random_list(cases: &mut Cases, seed: u64, maximum: u64, calm: u64, length: usize) {

@@ -1,0 +1,3 @@
+pub mod Properties
+pub mod Sent
+pub mod Step

@@ -1,0 +1,5 @@
+pub mod Link
+pub mod Part
+pub mod Properties
+pub mod Reply
+pub mod Step

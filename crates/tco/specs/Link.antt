@@ -1,0 +1,22 @@
+-- Set Link over a medium that is told by a number (document 01, Set Link).
+use Prim.Native.Nat.{ℕ}
+use mathlib.Core.Bool.{Bool}
+use lib.Dec.{eqb}
+use Rattle.prelude.specs.Choice.{if_then_else_}
+use Rattle.setlink.specs.declared.Decision.{Decision}
+use Rattle.setlink.specs.declared.Media.the-variants.{Copper, Fibre}
+use Rattle.setlink.specs.Decide.{failed, invalidParameter, decided}
+
+-- "Media: copper .. fibre"
+abbrev pub copper : ℕ
+copper = 0
+
+abbrev pub fibre : ℕ
+fibre = 1
+
+-- over any other medium the word is refused, and "A refusal keeps the old word."
+unfoldable pub decidedOver : ℕ → ℕ → Bool → ℕ → Decision
+decidedOver inForce word hostPresent media =
+    if eqb media copper then decided inForce word hostPresent Copper else
+    if eqb media fibre then decided inForce word hostPresent Fibre else
+    record { response = failed; reason = invalidParameter; «in_force» = inForce }

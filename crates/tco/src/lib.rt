@@ -1,0 +1,232 @@
+// What a driver links: the operations of the other crates under the names and in the layout of
+// include/tco.h, and the one operation on an account where it lies. Whatever is handed in, each
+// function answers; none relies on its caller for more than what the header says of memory.
+use address::Address;
+use address::Source;
+use setlink::Decision;
+use setlink::Media;
+use state::Account;
+use state::Made;
+use status::Fields;
+use status::Parsed;
+use status::Written;
+ghost use mathlib.Core.Path.{_≡_};
+ghost use Rattle.address.specs.Address.{sourceOf};
+ghost use Rattle.journal.specs.Printout.{written as Printout·written, printed};
+ghost use Rattle.settings.specs.Enable.{answered, freshened};
+ghost use Rattle.state.specs.Account.{made};
+ghost use Rattle.status.specs.Block.{written, parsed};
+ghost use Rattle.translator.specs.Transact.{transacted};
+ghost use Rattle.tco.specs.Reply.{left, leftBy};
+ghost use Rattle.tco.specs.Part.{shownLength, partFrom, macInForce, ipv4InForce};
+ghost use Rattle.tco.specs.Link.{decidedOver};
+
+// What a transaction is answered: its number, and the sent length of a packet that was sent, else 0.
+#[repr(C)]
+pub struct Reply {
+    pub answer: u32,
+    pub sent: u32,
+}
+
+// A part of a buffer that was lent: of the settings or of Flash, by its source, where it starts and
+// its length. All is zero where there is none.
+#[repr(C)]
+pub struct Part {
+    pub source: u32,
+    pub start: u32,
+    pub length: u32,
+}
+
+// An account after a transaction, and the reply.
+struct Replied {
+    account: Account,
+    reply: Reply,
+}
+
+// Sources of a part.
+const NOWHERE: u32 = 0;
+
+const SETTINGS: u32 = 1;
+
+const FLASH: u32 = 2;
+
+// Sizes of the addresses.
+const MAC_SIZE: u32 = (settings::IPV4 - settings::MAC) as u32;
+
+const IPV4_SIZE: u32 = (settings::UNREAD - settings::IPV4) as u32;
+
+// Media.
+const COPPER: u32 = 0;
+
+const FIBRE: u32 = 1;
+
+const FAILED: u16 = 0x0001;
+
+const INVALID_PARAMETER: u16 = 0x0002;
+
+// A fresh account for fragments of at most `maximum` data bytes.
+#[no_mangle]
+pub extern "C" fn tco_fresh_account(maximum: u32) -> Made
+    ensures { λ r. ⌜ r ≡ made maximum ⌝ }
+{
+    state::fresh(maximum)
+}
+
+// Writes a fresh settings record.
+#[no_mangle]
+pub extern "C" fn tco_fresh_settings(settings: &mut [u8]) -> u32
+    ensures { λ r. ⌜ answered r (now (settings .exit)) ≡ freshened (now (settings .entry)) ⌝ }
+{
+    settings::fresh(settings)
+}
+
+// Takes one transaction on the account where it lies.
+#[no_mangle]
+pub extern "C" fn tco_transact(
+    account: &mut Account,
+    store: &mut [u8],
+    settings: &mut [u8],
+    command: u8,
+    bytes: &[u8],
+    link_up: bool,
+) -> Reply
+    ensures { λ r. ⌜ left (now (account .exit)) r (now (store .exit)) (now (settings .exit)) ≡ leftBy (transacted (now (account .entry)) (now (store .entry)) (now (settings .entry)) command (now (bytes .entry)) «link_up») ⌝ }
+{
+    let replied = transact(*account, store, settings, command, bytes, link_up);
+    *account = replied.account;
+    replied.reply
+}
+
+// The call by value, its outcome told in numbers.
+fn transact(
+    account: Account,
+    store: &mut [u8],
+    settings: &mut [u8],
+    command: u8,
+    bytes: &[u8],
+    link_up: bool,
+) -> Replied
+    ensures { λ r. ⌜ left (r .account) (r .reply) (now (store .exit)) (now (settings .exit)) ≡ leftBy (transacted account (now (store .entry)) (now (settings .entry)) command (now (bytes .entry)) «link_up») ⌝ }
+{
+    let done = translator::transact(account, store, settings, command, bytes, link_up);
+    let after = done.account;
+    let outcome = done.outcome;
+    Replied {
+        account: after,
+        reply: Reply {
+            answer: translator::number(outcome),
+            sent: translator::sent_length(outcome) as u32,
+        },
+    }
+}
+
+// How many bytes, from the store's first on, show the first `length` bytes of a packet.
+#[no_mangle]
+pub extern "C" fn tco_shown(store: &[u8], length: usize) -> usize
+    ensures { λ r. ⌜ r ≡ shownLength (store .entry) length ⌝ }
+{
+    packet::shown(store, length as u64).len()
+}
+
+// The MAC address in force, as a part of the settings record or of the Flash block.
+#[no_mangle]
+pub extern "C" fn tco_mac_in_force(settings: &[u8], flash: &[u8]) -> Part
+    ensures { λ r. ⌜ r ≡ macInForce (now (settings .entry)) (now (flash .entry)) ⌝ }
+{
+    in_force(
+        Address::Mac,
+        settings,
+        flash,
+        settings::MAC as u32,
+        0,
+        MAC_SIZE,
+    )
+}
+
+// The IPv4 address in force, as a part of the settings record or of the Flash block.
+#[no_mangle]
+pub extern "C" fn tco_ipv4_in_force(settings: &[u8], flash: &[u8]) -> Part
+    ensures { λ r. ⌜ r ≡ ipv4InForce (now (settings .entry)) (now (flash .entry)) ⌝ }
+{
+    in_force(
+        Address::Ipv4,
+        settings,
+        flash,
+        settings::IPV4 as u32,
+        MAC_SIZE,
+        IPV4_SIZE,
+    )
+}
+
+// An address in force that would start at `in_settings` in a record and at `in_flash` in a Flash
+// block.
+fn in_force(
+    address: Address,
+    settings: &[u8],
+    flash: &[u8],
+    in_settings: u32,
+    in_flash: u32,
+    length: u32,
+) -> Part
+    ensures { λ r. ⌜ r ≡ partFrom (sourceOf address (now (settings .entry)) (now (flash .entry))) «in_settings» «in_flash» length ⌝ }
+{
+    match address::source_of(address, settings, flash) {
+        Source::Nowhere => Part {
+            source: NOWHERE,
+            start: 0,
+            length: 0,
+        },
+        Source::Record => Part {
+            source: SETTINGS,
+            start: in_settings,
+            length,
+        },
+        Source::Flash => Part {
+            source: FLASH,
+            start: in_flash,
+            length,
+        },
+    }
+}
+
+// The status block for these fields.
+#[no_mangle]
+pub extern "C" fn tco_write_status(fields: Fields) -> Written
+    ensures { λ r. ⌜ r ≡ written fields ⌝ }
+{
+    status::write(fields)
+}
+
+// The fields of a status block.
+#[no_mangle]
+pub extern "C" fn tco_read_status(block: &[u8]) -> Parsed
+    ensures { λ r. ⌜ r ≡ parsed (now (block .entry)) ⌝ }
+{
+    status::read(block)
+}
+
+// Judges a Set Link word over a medium, COPPER or FIBRE; over any other it is an invalid parameter.
+#[no_mangle]
+pub extern "C" fn tco_set_link(in_force: u32, word: u32, host_present: bool, media: u32) -> Decision
+    ensures { λ r. ⌜ r ≡ decidedOver «in_force» word «host_present» media ⌝ }
+{
+    if media == COPPER {
+        return setlink::decide(in_force, word, host_present, Media::Copper);
+    }
+    if media == FIBRE {
+        return setlink::decide(in_force, word, host_present, Media::Fibre);
+    }
+    Decision {
+        response: FAILED,
+        reason: INVALID_PARAMETER,
+        in_force,
+    }
+}
+
+// Prints the account at the start of `out` and answers how many bytes that took.
+#[no_mangle]
+pub extern "C" fn tco_print_account(account: Account, out: &mut [u8]) -> usize
+    ensures { λ r. ⌜ Printout·written r (now (out .exit)) ≡ printed account (now (out .entry)) ⌝ }
+{
+    journal::print(account, out)
+}

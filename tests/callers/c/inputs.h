@@ -1,0 +1,47 @@
+/* The inputs of calls: plausible most of the time, else at an edge or anything at all. */
+#ifndef INPUTS_H
+#define INPUTS_H
+
+#include "source.h"
+#include "tco.h"
+
+/* The most bytes that the callers lend. */
+enum {
+    STORE_MOST = 2100,
+    SETTINGS_MOST = 40,
+    FLASH_MOST = 24,
+    BLOCK_MOST = 16,
+    DATA_MOST = 600,
+    PRINTOUT_MOST = 1024
+};
+
+struct transaction {
+    uint8_t command;
+    uint8_t bytes[DATA_MOST];
+    size_t length;
+    bool link_up;
+};
+
+/* A sound account: fresh, in use, or with little or no room left. */
+tco_account draw_account(struct source *source);
+/* Changes one number of an account, or all. */
+void alter_account(struct source *source, tco_account *account);
+
+/* A sound record at the start of the settings, and any bytes after it. */
+void draw_settings(struct source *source, uint8_t settings[SETTINGS_MOST]);
+/* Changes one byte of a record that decides whether it is sound, or all. */
+void alter_settings(struct source *source, uint8_t settings[SETTINGS_MOST]);
+
+/* A transaction for this account: often one that goes on with its open packet. */
+struct transaction draw_transaction(struct source *source, const tco_account *account);
+
+/* Fields of status data that are allowed, but for one of them at times. */
+tco_status draw_status(struct source *source);
+
+/* A Set Link word. */
+uint32_t draw_word(struct source *source);
+
+/* A length to lend: most of the time the usual one, else any, often near what is needed. */
+size_t draw_length(struct source *source, size_t usual, size_t needed, size_t most);
+
+#endif

@@ -1,0 +1,251 @@
+//! The inputs of calls: plausible most of the time, else at an edge or anything
+//! at all.
+
+use reference::account::{
+    Account, Fate, BYTES, FATES, FRAGMENTS, HIGHEST_MAXIMUM, HIGHEST_TOTAL, NUMBERS, PACKETS, ROWS,
+};
+use reference::packet::LONGEST_PACKET;
+use reference::random::Random;
+use reference::settings::{CBDM, LONG_FORM_BYTES, MAC_KEPT, RECORD_BYTES, SHORT_FORM_BYTES};
+use reference::translator::{
+    FIRST, FIRST_FRAGMENT, LAST, LAST_FRAGMENT, MIDDLE_FRAGMENT, RECEIVE_ENABLE, WHOLE_PACKET,
+};
+use second::interface::{Status, BLOCK_BYTES};
+
+/// The most bytes of a store, of settings and of data that are lent.
+pub const STORE_MOST: usize = 2100;
+pub const SETTINGS_MOST: usize = 40;
+pub const DATA_MOST: usize = 600;
+
+/// A transaction.
+pub struct Transaction {
+    pub command: u8,
+    pub bytes: Vec<u8>,
+    pub link_up: bool,
+}
+
+/// A sound account: fresh, in use, or with little or no room left.
+pub fn account(random: &mut Random) -> Account {
+    let maximum =
+        if random.one_in(2) { HIGHEST_MAXIMUM } else { between(random, 1, HIGHEST_MAXIMUM) };
+    let mut account = Account { maximum, ..Account::default() };
+    if random.one_in(2) {
+        return account;
+    }
+    let many = random.pick(&[2, 1000, HIGHEST_TOTAL / (FATES as u64 + 1)]);
+    for fate in ROWS {
+        let fragments = random.below(many);
+        let row = &mut account.grid[fate as usize];
+        row[FRAGMENTS] = fragments;
+        if fate != Fate::BadLength {
+            row[BYTES] = between(random, 0, HIGHEST_MAXIMUM * fragments);
+        }
+        if fate != Fate::BadLength && fate != Fate::Aborted {
+            row[PACKETS] = between(random, 0, fragments);
+        }
+    }
+    account.open_fragments = random.pick(&[0, 0, 1, 2, 6, 7]);
+    let most = maximum * account.open_fragments;
+    account.open_bytes = between(random, account.open_fragments, most);
+    account.taken = random.below(1000);
+    account.refused = random.below(1000);
+    account.total = sum(&account);
+    if random.one_in(4) {
+        let left = HIGHEST_TOTAL - account.total - random.pick(&[0, 1, 2, 30]);
+        account.taken += left;
+        account.total += left;
+    }
+    account
+}
+
+/// The same account with one number changed, or all.
+pub fn altered(random: &mut Random, account: &Account) -> Account {
+    let mut numbers = account.numbers();
+    if random.one_in(8) {
+        numbers = std::array::from_fn(|_| random.u64() >> random.below(64));
+    } else {
+        let number = &mut numbers[random.below(NUMBERS as u64) as usize];
+        *number = random.pick(&[
+            number.wrapping_add(1),
+            number.wrapping_sub(1),
+            0,
+            1,
+            HIGHEST_MAXIMUM,
+            HIGHEST_MAXIMUM + 1,
+            HIGHEST_TOTAL,
+            HIGHEST_TOTAL + 1,
+            u64::MAX / HIGHEST_MAXIMUM,
+            u64::MAX / HIGHEST_MAXIMUM + 1,
+            1 << 63,
+            u64::MAX,
+        ]);
+    }
+    let mut account = Account::of_numbers(numbers);
+    if random.one_in(2) {
+        account.total = sum(&account);
+    }
+    account
+}
+
+fn sum(account: &Account) -> u64 {
+    let beside = [account.open_fragments, account.taken, account.refused];
+    let in_grid = account.grid.iter().map(|row| row[FRAGMENTS]);
+    in_grid.chain(beside).fold(0, u64::wrapping_add)
+}
+
+/// A sound record, and any bytes after it.
+pub fn settings(random: &mut Random) -> Vec<u8> {
+    let mut settings = random.bytes(SETTINGS_MOST);
+    settings[0] = control(random);
+    settings[1] = random.below(4) as u8;
+    if settings[0] & CBDM != 0 {
+        settings[1] |= MAC_KEPT;
+    }
+    settings
+}
+
+/// The same settings with one of the bytes changed that decide whether the
+/// record is sound, or with all.
+pub fn altered_settings(random: &mut Random, settings: &[u8]) -> Vec<u8> {
+    if random.one_in(8) {
+        return random.bytes(settings.len());
+    }
+    let mut settings = settings.to_vec();
+    settings[random.below(2) as usize] = random.byte();
+    settings
+}
+
+/// An allowed control byte.
+fn control(random: &mut Random) -> u8 {
+    random.pick(&[0x40, 0x41, 0x48, 0x49, 0x61, 0x6f, 0xc1, 0xc9, 0xdf])
+}
+
+/// A transaction for this account: often one that goes on with its open packet.
+pub fn transaction(random: &mut Random, account: &Account) -> Transaction {
+    let command = command(random, account.open_fragments > 0);
+    let link_up = !random.one_in(8);
+    if command != RECEIVE_ENABLE {
+        let length = fragment_length(random, account);
+        return Transaction { command, bytes: random.bytes(length), link_up };
+    }
+    let length = match random.below(8) {
+        0..=2 => SHORT_FORM_BYTES,
+        3..=5 => LONG_FORM_BYTES,
+        _ => random.pick(&[0, 2, 13, 15, 255, 256 + SHORT_FORM_BYTES, 256 + LONG_FORM_BYTES]),
+    };
+    let mut bytes = random.bytes(length);
+    if length > 0 && !random.one_in(4) {
+        bytes[0] = control(random);
+    }
+    Transaction { command, bytes, link_up }
+}
+
+fn command(random: &mut Random, is_open: bool) -> u8 {
+    match random.below(32) {
+        0 => random.byte(),
+        1 => random.byte() | FIRST | LAST,
+        2 | 3 => RECEIVE_ENABLE,
+        4 => random.pick(&[FIRST_FRAGMENT, MIDDLE_FRAGMENT, LAST_FRAGMENT, WHOLE_PACKET]),
+        _ if is_open && random.one_in(8) => LAST_FRAGMENT,
+        _ if is_open => MIDDLE_FRAGMENT,
+        _ if random.one_in(4) => WHOLE_PACKET,
+        _ => FIRST_FRAGMENT,
+    }
+}
+
+fn fragment_length(random: &mut Random, account: &Account) -> usize {
+    let maximum = account.maximum;
+    let length = match random.below(8) {
+        0 => random.pick(&[0, 1, maximum - 1, maximum + 1, 240, 241, 255, 256, 257]),
+        1 => random.below(DATA_MOST as u64),
+        2 => 1 + random.below(maximum),
+        3 => {
+            let edges =
+                [16, 17, 63, 64, 65, LONGEST_PACKET - 1, LONGEST_PACKET, LONGEST_PACKET + 1];
+            random.pick(&edges).saturating_sub(account.open_bytes).min(maximum)
+        }
+        _ => maximum,
+    };
+    length as usize
+}
+
+/// Fields of status data that are allowed, but for one of them at times.
+pub fn status(random: &mut Random) -> Status {
+    let mut status = Status {
+        length: between(random, 1, LONGEST_PACKET) as u16,
+        vlan: random.u16(),
+        decision_match: random.one_in(2),
+        decision_index: 0,
+        vlan_match: random.one_in(2),
+        vlan_index: 0,
+    };
+    if status.decision_match {
+        status.decision_index = random.below(16) as u8;
+    }
+    if status.vlan_match {
+        status.vlan_index = random.below(8) as u8;
+    }
+    match random.below(8) {
+        0 => status.length = random.pick(&[0, 1, 1536, 1537, 1 << 14, u16::MAX]),
+        1 => status.decision_index = random.pick(&[0, 1, 15, 16, u8::MAX]),
+        2 => status.vlan_index = random.pick(&[0, 1, 7, 8, u8::MAX]),
+        _ => {}
+    }
+    status
+}
+
+/// A status block: one that can be read, often with a bit turned or of another
+/// length, or any bytes.
+pub fn block(random: &mut Random) -> Vec<u8> {
+    if random.one_in(8) {
+        let length = random.below(2 * BLOCK_BYTES as u64) as usize;
+        return random.bytes(length);
+    }
+    let mut block = second::write_status(status(random)).block.to_vec();
+    if random.one_in(4) {
+        let bit = random.below(8 * BLOCK_BYTES as u64) as usize;
+        block[bit / 8] ^= 1 << (bit % 8);
+    }
+    if random.one_in(8) {
+        block.resize(random.below(2 * BLOCK_BYTES as u64) as usize, 0);
+    }
+    block
+}
+
+/// A Set Link word.
+pub fn word(random: &mut Random) -> u32 {
+    let meant = random.u32() & 0xf1f;
+    if random.one_in(4) {
+        meant | 1 << random.below(32)
+    } else {
+        meant
+    }
+}
+
+/// A length to lend: the usual one most of the time, else any, often at the
+/// edge of what is needed.
+pub fn length(random: &mut Random, usual: usize, needed: usize, most: usize) -> usize {
+    if !random.one_in(8) {
+        usual
+    } else if random.one_in(2) {
+        random.pick(&[0, 1, needed - 1, needed, needed + 1, most]).min(most)
+    } else {
+        random.below(most as u64 + 1) as usize
+    }
+}
+
+/// The usual length of what a session lends.
+pub fn usual_length(random: &mut Random, needed: usize, most: usize) -> usize {
+    random.pick(&[needed, needed + 1, most])
+}
+
+/// A number from the least to the most, often one of these two.
+fn between(random: &mut Random, least: u64, most: u64) -> u64 {
+    match random.below(4) {
+        0 => least,
+        1 => most,
+        _ => least + random.below(most - least + 1),
+    }
+}
+
+const _: () = assert!(RECORD_BYTES < SETTINGS_MOST && (LONGEST_PACKET as usize) < STORE_MOST);
