@@ -14,32 +14,18 @@ use Rattle.prelude.specs.Choice.{if_then_else_, _or_}
 use Rattle.prelude.proofs.Tests.{if-true, if-false}
 use Rattle.settings.specs.Record as settings-record
 use Rattle.state.specs.Account.{limit}
-use Rattle.history.specs.Lines.{Line, aborted, row, opened}
+use Rattle.history.specs.Lines.{opened}
 use Rattle.history.specs.Reading.{Entry, transaction, bringsMac, isMacKept, Role, fragment, ends, passes, roleOf, roles, rolesAfter}
-use Rattle.history.specs.Runs.{runFrom, lineOf}
-use Rattle.history.specs.Partition.{lineBack, lineAt, linesAfter}
+use Rattle.history.specs.Partition.{lineAt, linesAfter}
 use Rattle.history.specs.Calls.{Call, transact, reads, Kept, after, hasRoom, withRoom, mostCounted, counted}
 use Rattle.history.specs.Demand3.{maximumFor, fresh}
 use Rattle.history.specs.Answers.{answerLines, Answered, EveryAnswer}
 use Rattle.history.proofs.Ledger.{Ledger, nothing, fold, stepOn, lineOn, continuedLine}
 use Rattle.history.proofs.Ledger as on-ledger
+use Rattle.history.proofs.Back.{grows, heldBack, lineFrom, line-back}
 use Rattle.history.proofs.Partition.{roles-length}
 use Rattle.history.proofs.Reached.{Reached, answer, answer-without-room, answer-when-full, answer-when-counted, line-when-counted}
 use Rattle.history.proofs.Demand3.{or-through, fresh-calls-reach}
-
--- the fragments held at a place, found by looking back from it
-abbrev grows : List (List ℕ) → List ℕ → List (List ℕ)
-grows [] piece = []
-grows (p ∷ ps) piece = (p ∷ ps) ++ piece ∷ []
-
-abbrev heldBack : (earlier : List Role) → List (List ℕ)
-heldBack [] = []
-heldBack (fragment true true d k ∷ earlier) = []
-heldBack (fragment true false d k ∷ earlier) = d ∷ []
-heldBack (fragment false true d k ∷ earlier) = []
-heldBack (fragment false false d k ∷ earlier) = grows (heldBack earlier) d
-heldBack (ends e l ∷ earlier) = []
-heldBack (passes l ∷ earlier) = heldBack earlier
 
 step-held-back : (role : Role) (earlier : List Role) (held : List (List ℕ)) (l : Ledger) → held ≡ heldBack earlier → stepOn role held (l .done) (l .alone) .held ≡ heldBack (role ∷ earlier)
 step-held-back (fragment true true d k) earlier held l e = refl
@@ -54,28 +40,6 @@ step-held-back (passes x) earlier held l e = e
 fold-held-back : (list earlier : List Role) (l : Ledger) → l .held ≡ heldBack earlier → fold list l .held ≡ heldBack (reverseAux list earlier)
 fold-held-back [] earlier l e = e
 fold-held-back (role ∷ list) earlier l e = fold-held-back list (role ∷ earlier) (on-ledger.step role l) (step-held-back role earlier (l .held) l e)
-
--- the line that looking back finds
-abbrev lineFrom : List (List ℕ) → List Role → Line
-lineFrom [] later = row aborted
-lineFrom (p ∷ ps) later = lineOf (runFrom (p ∷ ps) later .end)
-
-grown-line : (held : List (List ℕ)) (d : List ℕ) (k : Bool) (later : List Role) → lineFrom held (fragment false false d k ∷ later) ≡ lineFrom (grows held d) later
-grown-line [] d k later = refl
-grown-line (p ∷ ps) d k later = refl
-
-passed-line : (held : List (List ℕ)) (line : Line) (later : List Role) → lineFrom held (passes line ∷ later) ≡ lineFrom held later
-passed-line [] line later = refl
-passed-line (p ∷ ps) line later = refl
-
-line-back : (earlier later : List Role) → lineBack earlier later ≡ lineFrom (heldBack earlier) later
-line-back [] later = refl
-line-back (fragment true true d k ∷ earlier) later = refl
-line-back (fragment true false d k ∷ earlier) later = refl
-line-back (fragment false true d k ∷ earlier) later = refl
-line-back (fragment false false d k ∷ earlier) later = line-back earlier (fragment false false d k ∷ later) ∙ grown-line (heldBack earlier) d k later
-line-back (ends e l ∷ earlier) later = refl
-line-back (passes l ∷ earlier) later = line-back earlier (passes l ∷ later) ∙ passed-line (heldBack earlier) l later
 
 continued-line : (l k : Bool) (d : List ℕ) (held : List (List ℕ)) → lineFrom held (fragment false l d k ∷ []) ≡ continuedLine l k d held
 continued-line l k d [] = refl

@@ -9,16 +9,16 @@ use native.Mathlib.Omega.{arith}
 use lib.Dec.{ltb, leb, eqb}
 use lib.ListN.{length, getD, take, replicate, getD-replicate, length-take}
 use lib.Seq.{take-nil}
-use borrow.Author.Tests.{ltb-true, ltb-false, leb-true, leb-false, le-leb, lt-leb, lt-ltb, le-ltb}
+use borrow.Author.Tests.{ltb-true, ltb-false, le-leb, lt-leb, le-ltb}
 use Rattle.prelude.specs.Choice.{if_then_else_, _and_, _or_}
-use Rattle.prelude.proofs.Tests.{if-true, if-false, if-cases, if-first, if-second}
+use Rattle.prelude.proofs.Tests.{if-true, if-false}
 use Rattle.settings.specs.Record as settings-record
 use Rattle.settings.specs.Enable.{freshened}
 use Rattle.settings.proofs.Properties.{every-fresh}
 use Rattle.state.specs.declared.Account.{Account}
 use Rattle.state.specs.declared.Made.{Made}
-use Rattle.state.specs.Account.{limit, maxMaximum, rows, columns, allFragments, freshAccount, made}
-use Rattle.state.specs.Sound.{countsSound, rowSound, rowsSound, singlesSound, sumHolds, sound}
+use Rattle.state.specs.Account.{limit, maxMaximum, rows, columns, freshAccount, made}
+use Rattle.state.proofs.FreshAccounts.{every-fresh as every-fresh-account}
 use Rattle.history.specs.Lines.{Fate, sent, rowOf, cellAt, Line, row, opened, taken, refused, lineNumber, Column, packets, fragments, bytes}
 use Rattle.history.specs.Reading.{Entry, transaction, bringsMac, isMacKept, Role, roleOf, roles, rolesAfter}
 use Rattle.history.specs.Runs.{concatenated, runs, Single, singlesAfter, countRuns, countSingles, countIn, openPieces, comparedFrom}
@@ -96,7 +96,7 @@ module _ (maximum : ℕ) (store settings : List ℕ) where
       by-room false e later = rw (refused-without-room store settings n m command input linkUp kept r e) (later earlier total l kept within r)
       by-room true e later = by-total (ltb total limit) refl e later
 
--- a fresh account is sound, and has counted nothing
+-- a fresh account has counted nothing
 made-is-fresh : (maximum : ℕ) → made maximum .account ≡ freshAccount (maximumFor maximum)
 unfolding made maximumFor
 made-is-fresh maximum = by-tests (ltb maximum 1) (ltb maxMaximum maximum) refl refl
@@ -112,15 +112,6 @@ made-is-fresh maximum = by-tests (ltb maximum 1) (ltb maxMaximum maximum) refl r
     by-tests false false e f =
         ap first (if-false _ _ _ e ∙ if-false _ _ _ f)
         ∙ sym (ap freshAccount (if-true _ _ _ (if-true _ _ _ (le-leb 1 maximum (ltb-false maximum 1 e)) ∙ le-leb maximum maxMaximum (ltb-false maxMaximum maximum f))))
-
-maximum-for : (asked : ℕ) → (1 ≤ maximumFor asked) × (maximumFor asked ≤ maxMaximum)
-unfolding maximumFor
-maximum-for asked =
-    if-cases (λ (n : ℕ). (1 ≤ n) × (n ≤ maxMaximum)) _ _ _ (λ e. (leb-true _ _ (if-first _ _ e), leb-true _ _ (if-second _ _ e))) (λ _. (omega arith, omega arith))
-
-fresh-sound : (maximum : ℕ) → 1 ≤ maximum → maximum ≤ maxMaximum → sound (freshAccount maximum) ≡ true
-unfolding sound countsSound rowsSound rowSound singlesSound sumHolds allFragments if_then_else_
-fresh-sound maximum least most = rw (le-leb 1 maximum least, le-leb maximum maxMaximum most, le-leb 0 (maximum * 0) (omega arith))
 
 fresh-counts : (maximum : ℕ) → Counts maximum 0 (freshAccount maximum) nothing
 fresh-counts maximum = record {
@@ -149,10 +140,9 @@ fresh-mac settings room = rw (le-ltb _ _ room)
 fresh-reached : (maximum : ℕ) (store settings : List ℕ) → settings-record.size ≤ length settings
     → Reached (maximumFor maximum) 0 store settings false nothing (fresh maximum store settings)
 fresh-reached maximum store settings room =
-    let within : (1 ≤ maximumFor maximum) × (maximumFor maximum ≤ maxMaximum) = maximum-for maximum in
     record {
       counts = rw (made-is-fresh maximum) (fresh-counts (maximumFor maximum));
-      account-is-sound = rw (made-is-fresh maximum) (fresh-sound (maximumFor maximum) (within .0) (within .1));
+      account-is-sound = every-fresh-account maximum;
       store-length = refl;
       stored = refl;
       sent-are = refl;

@@ -103,7 +103,7 @@ pub fold-runs : (list : List Role) → fold list nothing .done ++ closing unende
 fold-runs list = runs-from list nothing
 
 -- a run goes on exactly where fragments are held
-abbrev isHeld : List (List ℕ) → Bool
+abbrev pub isHeld : List (List ℕ) → Bool
 isHeld [] = false
 isHeld (piece ∷ pieces) = true
 

@@ -1,4 +1,5 @@
 pub mod Answers
+pub mod Back
 pub mod Contract
 pub mod Counts
 pub mod Demand3

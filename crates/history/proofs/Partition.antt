@@ -10,7 +10,9 @@ use Rattle.prelude.specs.Choice.{if_then_else_}
 use Rattle.history.specs.Lines.{Fate, sent, superseded, flushed, broken, over, short, linkdown, aborted, badlength, Line, row, opened, taken, refused, lines, Column, fragments, isLine, inLine}
 use Rattle.history.specs.Reading.{Entry, Role, fragment, ends, passes, roles, rolesAfter}
 use Rattle.history.specs.Runs.{Run, runFrom, runs, isInRun, singlesAfter, lineOf, ofRun, ofSingle, countRuns, countSingles, countIn}
-use Rattle.history.specs.Partition.{lineBack, lineAt, linesAfter, placesIn, sumOver, InOneLine, Partition}
+use Rattle.history.proofs.Back.{grows, heldBack, line-back, held-in-run}
+use Rattle.history.proofs.Ledger.{isHeld}
+use Rattle.history.specs.Partition.{lineAt, linesAfter, placesIn, sumOver, InOneLine, Partition}
 
 in-line-add : (line : Line) (m n : ℕ) (other : Line) → inLine line (m + n) other ≡ inLine line m other + inLine line n other
 unfolding inLine if_then_else_
@@ -28,45 +30,19 @@ single-fragments : (size : ℕ) → ofSingle size fragments ≡ 1
 unfolding ofSingle
 single-fragments size = refl
 
--- the fragments, so far, of the run that goes on at a place
-abbrev piecesBack : (earlier : List Role) → List (List ℕ)
-piecesBack [] = []
-piecesBack (fragment true l d k ∷ earlier) = d ∷ []
-piecesBack (fragment false l d k ∷ earlier) = piecesBack earlier ++ d ∷ []
-piecesBack (ends e l ∷ earlier) = []
-piecesBack (passes l ∷ earlier) = piecesBack earlier
-
-line-back : (earlier later : List Role) → isInRun earlier ≡ true → lineBack earlier later ≡ lineOf (runFrom (piecesBack earlier) later .end)
-line-back [] later e = absurd (mathlib.Core.Bool.false≢true e)
-line-back (fragment true true d k ∷ earlier) later e = absurd (mathlib.Core.Bool.false≢true e)
-line-back (fragment true false d k ∷ earlier) later e = refl
-line-back (fragment false true d k ∷ earlier) later e = absurd (mathlib.Core.Bool.false≢true e)
-line-back (fragment false false d k ∷ earlier) later e = line-back earlier (fragment false false d k ∷ later) e
-line-back (ends z l ∷ earlier) later e = absurd (mathlib.Core.Bool.false≢true e)
-line-back (passes l ∷ earlier) later e = line-back earlier (passes l ∷ later) e
-
-no-line-back : (earlier later : List Role) → isInRun earlier ≡ false → lineBack earlier later ≡ row aborted
-no-line-back [] later e = refl
-no-line-back (fragment true true d k ∷ earlier) later e = refl
-no-line-back (fragment true false d k ∷ earlier) later e = absurd (mathlib.Core.Bool.true≢false e)
-no-line-back (fragment false true d k ∷ earlier) later e = refl
-no-line-back (fragment false false d k ∷ earlier) later e = no-line-back earlier (fragment false false d k ∷ later) e
-no-line-back (ends z l ∷ earlier) later e = refl
-no-line-back (passes l ∷ earlier) later e = no-line-back earlier (passes l ∷ later) e
-
 -- of the run that goes on at a place: the fragments so far, and all of them, in its line
-abbrev soFar : Bool → List (List ℕ) → List Role → Line → ℕ
-soFar false pieces later line = 0
-soFar true pieces later line = inLine (lineOf (runFrom pieces later .end)) (length pieces) line
+abbrev soFar : List (List ℕ) → List Role → Line → ℕ
+soFar [] later line = 0
+soFar (p ∷ ps) later line = inLine (lineOf (runFrom (p ∷ ps) later .end)) (length (p ∷ ps)) line
 
-abbrev inAll : Bool → List (List ℕ) → List Role → Line → ℕ
-inAll false pieces later line = 0
-inAll true pieces later line = inLine (lineOf (runFrom pieces later .end)) (length (runFrom pieces later .pieces)) line
+abbrev inAll : List (List ℕ) → List Role → Line → ℕ
+inAll [] later line = 0
+inAll (p ∷ ps) later line = inLine (lineOf (runFrom (p ∷ ps) later .end)) (length (runFrom (p ∷ ps) later .pieces)) line
 
 -- where the run takes in nothing more
-run-over : (b : Bool) (pieces : List (List ℕ)) (later : List Role) (line : Line) → runFrom pieces later .pieces ≡ pieces → soFar b pieces later line ≡ inAll b pieces later line
-run-over false pieces later line e = refl
-run-over true pieces later line e = rw e
+run-over : (held : List (List ℕ)) (later : List Role) (line : Line) → runFrom held later .pieces ≡ held → soFar held later line ≡ inAll held later line
+run-over [] later line e = refl
+run-over (p ∷ ps) later line e = rw e
 
 one-more : (line : Line) (pieces : List (List ℕ)) (d : List ℕ) (other : Line) → inLine line (length (pieces ++ d ∷ [])) other ≡ inLine line 1 other + inLine line (length pieces) other
 one-more line pieces d other = rw length-append (in-line-add line (length pieces) 1 other ∙ omega arith)
@@ -74,32 +50,40 @@ one-more line pieces d other = rw length-append (in-line-add line (length pieces
 abbrev fragmentsOf : List Role → List Role → Line → ℕ
 fragmentsOf earlier later line = countRuns (runs later) line fragments + countSingles (singlesAfter earlier later) line fragments
 
-places : (later earlier : List Role) (b : Bool) → isInRun earlier ≡ b → (line : Line)
-    → placesIn (linesAfter earlier later) line + soFar b (piecesBack earlier) later line ≡ inAll b (piecesBack earlier) later line + fragmentsOf earlier later line
+-- whether a run goes on, by the fragments held
+not-in-run : (earlier : List Role) → heldBack earlier ≡ [] → isInRun earlier ≡ false
+not-in-run earlier e = sym (held-in-run earlier) ∙ ap isHeld e
+
+is-in-run : (earlier : List Role) (p : List ℕ) (ps : List (List ℕ)) → heldBack earlier ≡ p ∷ ps → isInRun earlier ≡ true
+is-in-run earlier p ps e = sym (held-in-run earlier) ∙ ap isHeld e
+
+places : (later earlier : List Role) (held : List (List ℕ)) → heldBack earlier ≡ held → (line : Line)
+    → placesIn (linesAfter earlier later) line + soFar held later line ≡ inAll held later line + fragmentsOf earlier later line
 unfolding if_then_else_
-places [] earlier true e line = omega arith
-places [] earlier false e line = refl
-places (fragment true true d k ∷ later) earlier b e line =
-    rw run-fragments (omega (arith, places later (fragment true true d k ∷ earlier) false refl line, run-over b (piecesBack earlier) (fragment true true d k ∷ later) line refl))
-places (fragment true false d k ∷ later) earlier b e line =
-    rw run-fragments (omega (arith, places later (fragment true false d k ∷ earlier) true refl line, run-over b (piecesBack earlier) (fragment true false d k ∷ later) line refl))
-places (fragment false true d k ∷ later) earlier true e line =
-    rw (e, line-back earlier (fragment false true d k ∷ later) e)
-    (omega (arith, places later (fragment false true d k ∷ earlier) false refl line, one-more (lineOf (runFrom (piecesBack earlier) (fragment false true d k ∷ later) .end)) (piecesBack earlier) d line))
-places (fragment false true d k ∷ later) earlier false e line =
-    rw (e, no-line-back earlier (fragment false true d k ∷ later) e, single-fragments) (omega (arith, places later (fragment false true d k ∷ earlier) false refl line))
-places (fragment false false d k ∷ later) earlier true e line =
-    rw (e, line-back earlier (fragment false false d k ∷ later) e)
-    (omega (arith, places later (fragment false false d k ∷ earlier) true e line, one-more (lineOf (runFrom (piecesBack earlier) (fragment false false d k ∷ later) .end)) (piecesBack earlier) d line))
-places (fragment false false d k ∷ later) earlier false e line =
-    rw (e, no-line-back earlier (fragment false false d k ∷ later) e, single-fragments) (omega (arith, places later (fragment false false d k ∷ earlier) false e line))
-places (ends z l ∷ later) earlier b e line =
-    rw single-fragments (omega (arith, places later (ends z l ∷ earlier) false refl line, run-over b (piecesBack earlier) (ends z l ∷ later) line refl))
-places (passes l ∷ later) earlier true e line = rw single-fragments (omega (arith, places later (passes l ∷ earlier) true e line))
-places (passes l ∷ later) earlier false e line = rw single-fragments (omega (arith, places later (passes l ∷ earlier) false e line))
+places [] earlier [] e line = refl
+places [] earlier (p ∷ ps) e line = omega arith
+places (fragment true true d k ∷ later) earlier held e line =
+    rw run-fragments (omega (arith, places later (fragment true true d k ∷ earlier) [] refl line, run-over held (fragment true true d k ∷ later) line refl))
+places (fragment true false d k ∷ later) earlier held e line =
+    rw run-fragments (omega (arith, places later (fragment true false d k ∷ earlier) (d ∷ []) refl line, run-over held (fragment true false d k ∷ later) line refl))
+places (fragment false true d k ∷ later) earlier [] e line =
+    rw (not-in-run earlier e, line-back earlier (fragment false true d k ∷ later), e, single-fragments) (omega (arith, places later (fragment false true d k ∷ earlier) [] refl line))
+places (fragment false true d k ∷ later) earlier (p ∷ ps) e line =
+    rw (is-in-run earlier p ps e, line-back earlier (fragment false true d k ∷ later), e)
+    (omega (arith, places later (fragment false true d k ∷ earlier) [] refl line, one-more (lineOf (runFrom (p ∷ ps) (fragment false true d k ∷ later) .end)) (p ∷ ps) d line))
+places (fragment false false d k ∷ later) earlier [] e line =
+    rw (not-in-run earlier e, line-back earlier (fragment false false d k ∷ later), e, single-fragments)
+    (omega (arith, places later (fragment false false d k ∷ earlier) [] (ap (λ (h : List (List ℕ)). grows h d) e) line))
+places (fragment false false d k ∷ later) earlier (p ∷ ps) e line =
+    rw (is-in-run earlier p ps e, line-back earlier (fragment false false d k ∷ later), e)
+    (omega (arith, places later (fragment false false d k ∷ earlier) ((p ∷ ps) ++ d ∷ []) (ap (λ (h : List (List ℕ)). grows h d) e) line, one-more (lineOf (runFrom (p ∷ ps) (fragment false false d k ∷ later) .end)) (p ∷ ps) d line))
+places (ends z l ∷ later) earlier held e line =
+    rw single-fragments (omega (arith, places later (ends z l ∷ earlier) [] refl line, run-over held (ends z l ∷ later) line refl))
+places (passes l ∷ later) earlier [] e line = rw single-fragments (omega (arith, places later (passes l ∷ earlier) [] e line))
+places (passes l ∷ later) earlier (p ∷ ps) e line = rw single-fragments (omega (arith, places later (passes l ∷ earlier) (p ∷ ps) e line))
 
 pub counts-are-places : (list : List Role) (line : Line) → countIn list line fragments ≡ placesIn (linesAfter [] list) line
-counts-are-places list line = omega (arith, places list [] false refl line)
+counts-are-places list line = omega (arith, places list [] [] refl line)
 
 a-line-each : (earlier later : List Role) → length (linesAfter earlier later) ≡ length later
 a-line-each earlier [] = refl

@@ -1,15 +1,13 @@
--- What a good header says, and the fresh account for its maximum.
+-- What a good header says.
 -- Assumes nothing.
 use Prim.Native.Nat.{ℕ, _≤_}
 use mathlib.Core.Bool.{true}
 use mathlib.Core.List.{List}
-use mathlib.Core.Path.{_≡_, ap, _∙_}
+use mathlib.Core.Path.{_≡_}
 use native.Mathlib.Omega.{arith}
 use lib.ListN.{length, getD}
-use borrow.Author.Tests.{ltb-false, le-ltb}
-use Rattle.prelude.proofs.Tests.{if-false, if-cases}
-use Rattle.state.specs.Account.{freshAccount, made}
-use Rattle.state.specs.declared.Made.{Made}
+use borrow.Author.Tests.{ltb-false}
+use Rattle.prelude.proofs.Tests.{if-cases}
 use Rattle.journal.specs.Format.{isMarked, headerIn}
 use Rattle.journal.specs.declared.format.Header.{Header}
 use Rattle.journal.specs.declared.format.Header.the-variants as header
@@ -52,8 +50,3 @@ bad-long bytes = if-cases P _ _ _ (λ _ e. absurd (never e)) (λ long _. ltb-fal
 
     never : header.Cut ≡ header.Bad → ⊥
     never e = let z : _≡_ {A = ℕ} 0 1 = cc in omega arith
-
-pub made-good : (maximum : ℕ) → 1 ≤ maximum → maximum ≤ 240 → made maximum .account ≡ freshAccount maximum
-unfolding made
-made-good maximum least most =
-    ap (λ (m : Made). m .account) (if-false _ _ _ (le-ltb maximum 1 least) ∙ if-false _ _ _ (le-ltb 240 maximum most))

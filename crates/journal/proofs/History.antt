@@ -31,7 +31,8 @@ use Rattle.journal.specs.Format.{Transaction, Journal, bad, good, header
 use Rattle.journal.specs.Feeding.{Ran, ran, run}
 use Rattle.journal.specs.Journal.{emptyStore, freshRecord, accountOf}
 use Rattle.journal.specs.History.{entriesOf, callsOf, keptAfter, EveryJournal}
-use Rattle.journal.proofs.Headers.{Good, made-good}
+use Rattle.state.proofs.FreshAccounts.{made-fresh}
+use Rattle.journal.proofs.Headers.{Good}
 use Rattle.journal.proofs.Headers as headers
 
 -- one after another, on a store and a record that are lent whole
@@ -124,7 +125,7 @@ pub every-journal : EveryJournal
 unfolding parsed
 every-journal bytes maximum transactions e =
     let g : Good bytes maximum = good-header bytes (drop headerSize bytes) maximum transactions (headerIn bytes) refl e in
-    let account-is : made maximum .account ≡ freshAccount maximum = made-good maximum (g .least) (g .most) in
+    let account-is : made maximum .account ≡ freshAccount maximum = made-fresh maximum (g .least) (g .most) in
     let counted-are : counted (length emptyStore) (length freshRecord) (callsOf transactions) ≡ take mostCounted (entriesOf transactions) = ap (take mostCounted) (calls-have-room transactions) in
     let agrees : Agrees (maximumFor maximum) (counted (length emptyStore) (length freshRecord) (callsOf transactions)) (keptAfter maximum transactions)
     = demand3 maximum emptyStore freshRecord record-room (callsOf transactions) in

@@ -27,6 +27,7 @@ use Rattle.journal.specs.declared.format.Header.the-variants as header
 use Rattle.journal.specs.declared.reading.Reading.{Reading}
 use Rattle.journal.specs.declared.reading.Stage.{Stage}
 use Rattle.journal.specs.declared.reading.Stage.the-variants as stage
+use Rattle.state.proofs.FreshAccounts.{fresh-sound}
 use Rattle.journal.proofs.Headers.{Good}
 use Rattle.journal.proofs.Headers.{good as good-header}
 use Rattle.journal.proofs.Records.{Within, used-within}
@@ -38,10 +39,6 @@ run-sound s [] formed h = h
 run-sound s (t ∷ rest) formed h =
     let after : _ = every-transaction (s .account) (s .store) (s .settings) (t .command) (t .bytes) (t .linkUp) formed in
     run-sound _ rest (after .account-stays-formed) (after .account-stays-sound h)
-
-pub fresh-sound : (maximum : ℕ) → 1 ≤ maximum → maximum ≤ 240 → sound (freshAccount maximum) ≡ true
-unfolding state-sound.countsSound state-sound.rowSound state-sound.rowsSound state-sound.singlesSound state-sound.sumHolds state-sound.sound allFragments if_then_else_
-fresh-sound maximum least most = rw (le-leb 1 maximum least, le-leb maximum 240 most, le-leb 0 (maximum * 0) (omega arith))
 
 -- not all of it is used: bad, whatever was read
 pub concluded-left : (reading : Reading) (unused : ℕ) (out : List ℕ) → (unused ≡ 0 → ⊥) → concluded reading unused out ≡ shown badJournal out

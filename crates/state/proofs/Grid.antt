@@ -1,6 +1,6 @@
 -- Rows of the grid, one after the other.
 -- Assumes nothing.
-use Prim.Native.Nat.{ℕ, zero, suc, _+_, _-_, _*_, _/_, _%_, _≤_, _<_}
+use Prim.Native.Nat.{ℕ, zero, suc, _+_, _-_, _≤_, _<_}
 use mathlib.Core.Bool.{Bool, true, false}
 use mathlib.Core.List.{List}
 use mathlib.Core.Logic.{⊎-elim}
@@ -8,18 +8,18 @@ use mathlib.Core.Path.{_≡_, refl, sym, ap, _∙_}
 use native.Mathlib.Nat.{le-of-suc-le-suc, not-suc-le-zero, eq-or-lt-of-le}
 use native.Mathlib.Numerals.{add-one}
 use native.Mathlib.Omega.{arith}
-use lib.Dec.{eqb, leb}
-use borrow.Author.Tests.{ne-eqb, le-leb, lt-leb, eqb-true, eqb-false}
+use lib.Dec.{eqb}
+use borrow.Author.Tests.{ne-eqb}
 use Rattle.prelude.specs.Choice.{if_then_else_, _and_}
 use Rattle.prelude.proofs.Tests.{if-true, if-false, if-first, if-second, eqb-iff}
-use Rattle.state.specs.Account.{rows, maxMaximum, packetsIn, fragmentsIn, bytesIn, allFragments}
+use Rattle.state.specs.Account.{rows, packetsIn, fragmentsIn, bytesIn, allFragments}
 use Rattle.state.specs.Sound.{rowSound, rowsSound, sumHolds}
 
 -- the test of a row in the grid
 abbrev pub rowSoundAt : ℕ → List ℕ → Bool
 rowSoundAt row grid = rowSound (packetsIn row grid) (fragmentsIn row grid) (bytesIn row grid)
 
-and-false : (a b : Bool) → b ≡ false → (a and b) ≡ false
+pub and-false : (a b : Bool) → b ≡ false → (a and b) ≡ false
 unfolding if_then_else_
 and-false true b h = h
 and-false false b h = refl
@@ -79,25 +79,3 @@ module _ (grid : List ℕ) (openFragments taken refused total : ℕ) where
   sum-is-left left h room =
       eqb-iff (left - openFragments - taken) refused (allFragments rows grid + openFragments + taken + refused) total
       (λ e. omega arith) (λ e. omega arith)
-
--- bytes compared with 240 times the fragments by division
-module _ (packets fragments bytes : ℕ) (few : packets ≤ fragments) where
-  pub row-too-full : fragments < bytes / maxMaximum → rowSound packets fragments bytes ≡ false
-  unfolding rowSound
-  row-too-full h = let more : maxMaximum * fragments < bytes = omega arith in if-true _ _ _ (le-leb _ _ few) ∙ lt-leb _ _ more
-
-  pub row-has-room : bytes / maxMaximum < fragments → rowSound packets fragments bytes ≡ true
-  unfolding rowSound
-  row-has-room h = let less : bytes ≤ maxMaximum * fragments = omega arith in if-true _ _ _ (le-leb _ _ few) ∙ le-leb _ _ less
-
-  pub row-just-full : bytes / maxMaximum ≡ fragments → eqb (bytes % maxMaximum) 0 ≡ rowSound packets fragments bytes
-  unfolding rowSound
-  row-just-full h =
-      sym (if-true _ _ _ (le-leb _ _ few) ∙ by-test (eqb (bytes % maxMaximum) 0) refl)
-    where
-      by-test : (t : Bool) → eqb (bytes % maxMaximum) 0 ≡ t → leb bytes (maxMaximum * fragments) ≡ t
-      by-test true e = let z : bytes % maxMaximum ≡ 0 = eqb-true _ _ e in let less : bytes ≤ maxMaximum * fragments = omega arith in le-leb _ _ less
-      by-test false e =
-          let n : bytes % maxMaximum ≡ 0 → ⊥ = eqb-false _ _ e in
-          let more : maxMaximum * fragments < bytes = omega arith in
-          lt-leb _ _ more

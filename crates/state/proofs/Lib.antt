@@ -1,2 +1,3 @@
+pub mod FreshAccounts
 pub mod Grid
 pub mod Sound

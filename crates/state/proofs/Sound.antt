@@ -1,12 +1,14 @@
 -- What soundness of an account tells, and what it takes.
 -- Assumes nothing.
 use Prim.Native.Nat.{ℕ, _+_, _*_, _≤_, _<_}
-use mathlib.Core.Bool.{true}
+use mathlib.Core.Bool.{Bool, true, false}
 use mathlib.Core.List.{List}
-use mathlib.Core.Path.{_≡_, _∙_}
+use mathlib.Core.Path.{_≡_, refl, sym, ap, _∙_}
 use native.Mathlib.Nat.{le-trans, mul-le-mul-left, mul-le-mul-right}
 use native.Mathlib.Omega.{arith}
+use lib.Dec.{leb}
 use borrow.Author.Tests.{leb-true, le-leb, eqb-true, eq-eqb}
+use Rattle.prelude.specs.Choice.{if_then_else_, _and_}
 use Rattle.prelude.proofs.Tests.{if-true, if-first, if-second}
 use Rattle.state.proofs.Grid.{row-sound-at, all-fragments-next, all-fragments-grow}
 use Rattle.state.specs.declared.Account.{Account}
@@ -73,6 +75,21 @@ sound-if a s =
     ∙ (if-true _ _ _ (s .singles-are-sound)
     ∙ (if-true _ _ _ (sum-if _ _ _ _ _ (s .sum))
     ∙ (if-true _ _ _ (le-leb _ _ (s .bytes-least)) ∙ le-leb _ _ (s .bytes-most)))))
+
+-- the tests in the order of the code, which takes a row's fragments from the total where it tests the row
+in-order : (r s g x : Bool) → ((r and s) and (g and x)) ≡ (r and (g and (s and x)))
+unfolding if_then_else_
+in-order true true true x = refl
+in-order true true false x = refl
+in-order true false true x = refl
+in-order true false false x = refl
+in-order false s g x = refl
+
+pub sound-in-order : (a : Account) → sound a
+    ≡ (countsSound (a .maximum) (a .total) and ((rowsSound rows (a .grid) and sumHolds (a .grid) (a .«open_fragments») (a .taken) (a .refused) (a .total))
+    and (singlesSound (a .grid) and (leb (a .«open_fragments») (a .«open_bytes») and leb (a .«open_bytes») (a .maximum * a .«open_fragments»)))))
+unfolding sound
+sound-in-order a = ap (λ (t : Bool). countsSound (a .maximum) (a .total) and t) (sym (in-order (rowsSound rows (a .grid)) (sumHolds (a .grid) (a .«open_fragments») (a .taken) (a .refused) (a .total)) (singlesSound (a .grid)) _))
 
 -- the most bytes of an open packet fit a number
 pub open-most : (a : Account) → countsSound (a .maximum) (a .total) ≡ true → sumHolds (a .grid) (a .«open_fragments») (a .taken) (a .refused) (a .total) ≡ true

@@ -1,7 +1,9 @@
 // The account: what became of every transaction, in a grid of nine fates by packets, fragments and
 // bytes, beside the packet that is open.
 ghost use mathlib.Core.Path.{_≡_};
-ghost use Rattle.state.specs.Account.{rows, freshAccount, made};
+ghost use Prim.Native.Nat.{_≤_};
+ghost use Rattle.prelude.specs.Choice.{_and_};
+ghost use Rattle.state.specs.Account.{limit, rows, freshAccount, made};
 ghost use Rattle.state.specs.Sound.{countsSound, rowSound, rowsSound, singlesSound, sumHolds, sound};
 
 // Any numbers may be handed in; is_sound tells those that an account can hold.
@@ -52,7 +54,7 @@ pub const ABORTED: usize = 7;
 
 pub const BADLENGTH: usize = 8;
 
-const ROWS: usize = 9;
+pub const ROWS: usize = 9;
 
 const COLUMNS: usize = 3;
 
@@ -105,19 +107,16 @@ pub fn is_sound(account: Account) -> bool
     if !are_counts_sound(account.maximum, account.total) {
         return false;
     }
-    if !are_rows_sound(grid) {
-        return false;
-    }
-    if !are_singles_sound(grid) {
-        return false;
-    }
-    if !is_sum(
+    if !are_rows_sound(
         grid,
         account.open_fragments,
         account.taken,
         account.refused,
         account.total,
     ) {
+        return false;
+    }
+    if !are_singles_sound(grid) {
         return false;
     }
     if account.open_bytes < account.open_fragments {
@@ -138,59 +137,27 @@ fn are_counts_sound(maximum: u64, total: u64) -> bool
     total <= LIMIT
 }
 
-fn are_rows_sound(grid: [u64; 27]) -> bool
-    ensures { λ r. ⌜ r ≡ rowsSound rows grid ⌝ }
-{
-    let mut row: usize = 0;
-    while row < ROWS {
-        let at = row * COLUMNS;
-        if !is_row_sound(grid[at], grid[at + 1], grid[at + 2]) {
-            return false;
-        }
-        row += 1;
-    }
-    true
-}
-
-// Bytes are compared with 240 times the fragments by division, since the product may not fit.
-fn is_row_sound(packets: u64, fragments: u64, bytes: u64) -> bool
-    ensures { λ r. ⌜ r ≡ rowSound packets fragments bytes ⌝ }
-{
-    if fragments < packets {
-        return false;
-    }
-    let whole = bytes / MAX_MAXIMUM;
-    if fragments < whole {
-        return false;
-    }
-    if whole < fragments {
-        return true;
-    }
-    bytes % MAX_MAXIMUM == 0
-}
-
-fn are_singles_sound(grid: [u64; 27]) -> bool
-    ensures { λ r. ⌜ r ≡ singlesSound grid ⌝ }
-{
-    if grid[ABORTED * COLUMNS] != 0 {
-        return false;
-    }
-    if grid[BADLENGTH * COLUMNS] != 0 {
-        return false;
-    }
-    grid[BADLENGTH * COLUMNS + 2] == 0
-}
-
-// Whether the fragments of the grid, the open ones and the commands add up to the total. They are
-// taken from it one by one, since their sum may not fit.
-fn is_sum(grid: [u64; 27], open_fragments: u64, taken: u64, refused: u64, total: u64) -> bool
-    ensures { λ r. ⌜ r ≡ sumHolds grid «open_fragments» taken refused total ⌝ }
+// Whether each row is sound, and the fragments of all rows, the open ones and the commands add up to
+// the total. They are taken from it one by one, since their sum may not fit.
+fn are_rows_sound(
+    grid: [u64; 27],
+    open_fragments: u64,
+    taken: u64,
+    refused: u64,
+    total: u64,
+) -> bool
+    requires { ⌜ total ≤ limit ⌝ }
+    ensures { λ r. ⌜ r ≡ (rowsSound rows grid and sumHolds grid «open_fragments» taken refused total) ⌝ }
 {
     let mut left = total;
     let mut row: usize = 0;
     while row < ROWS {
-        let fragments = grid[row * COLUMNS + 1];
+        let at = row * COLUMNS;
+        let fragments = grid[at + 1];
         if left < fragments {
+            return false;
+        }
+        if !is_row_sound(grid[at], fragments, grid[at + 2]) {
             return false;
         }
         left -= fragments;
@@ -204,4 +171,27 @@ fn is_sum(grid: [u64; 27], open_fragments: u64, taken: u64, refused: u64, total:
         return false;
     }
     left - taken == refused
+}
+
+// Of a row with no more fragments than an account has.
+fn is_row_sound(packets: u64, fragments: u64, bytes: u64) -> bool
+    requires { ⌜ fragments ≤ limit ⌝ }
+    ensures { λ r. ⌜ r ≡ rowSound packets fragments bytes ⌝ }
+{
+    if fragments < packets {
+        return false;
+    }
+    bytes <= MAX_MAXIMUM * fragments
+}
+
+fn are_singles_sound(grid: [u64; 27]) -> bool
+    ensures { λ r. ⌜ r ≡ singlesSound grid ⌝ }
+{
+    if grid[ABORTED * COLUMNS] != 0 {
+        return false;
+    }
+    if grid[BADLENGTH * COLUMNS] != 0 {
+        return false;
+    }
+    grid[BADLENGTH * COLUMNS + 2] == 0
 }

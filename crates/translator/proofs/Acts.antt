@@ -20,12 +20,13 @@ use Rattle.translator.specs.declared.command.Class.{Class}
 use Rattle.translator.specs.declared.command.Class.the-variants as class
 use Rattle.translator.specs.Command.{commands, classIn}
 use Rattle.translator.specs.Counting.{addTo, recounted, ended, single, grown, finished, commanded}
+use Rattle.translator.specs.Effect.{leftover}
 use Rattle.translator.specs.Outcome.{numberOf}
 use Rattle.translator.specs.Transact.{isTaken}
 use Rattle.translator.specs.Properties.{Formed, noRow, ownRow, fragmentCloses, closesIn, closedRow, SameRow, Adds, Packet, noPacket, openPacket, completes, Leaves}
 use Rattle.translator.proofs.Added.{Cells, added-length, added-here, added-elsewhere}
 use Rattle.translator.proofs.Soundness.{single-sound, finished-sound, grown-sound, commanded-sound, within-maximum}
-use Rattle.translator.proofs.Ways.{leftover, Act, acted, LastIn, Fits, Ready}
+use Rattle.translator.proofs.Ways.{Act, acted, LastIn, Fits, Ready}
 use Rattle.translator.proofs.Ways as way
 
 pub same : (row : ℕ) (a : Account) → SameRow row a a
@@ -53,7 +54,7 @@ pub record SameBeside (a b : Account) : Type 0 where
   pub total : b .total ≡ a .total
 
 -- the account whose open packet has ended in a row
-abbrev shut : ℕ → Account → Account
+abbrev pub shut : ℕ → Account → Account
 shut row a = recounted a (addTo row 1 (a .«open_fragments») (a .«open_bytes») (a .grid)) 0 0 (a .total)
 
 -- the row of those where a packet was open
@@ -61,7 +62,7 @@ abbrev pub whereOpen : Account → ℕ → ℕ
 whereOpen a row = if isOpen a then row else noRow
 
 module _ (row : ℕ) (a : Account) where
-  left-cases : (P : Account → Type 0) → (whereOpen a row ≡ row → row < rows → P (shut row a)) → (rows ≤ whereOpen a row → P a) → P (leftover row a)
+  pub left-cases : (P : Account → Type 0) → (whereOpen a row ≡ row → row < rows → P (shut row a)) → (rows ≤ whereOpen a row → P a) → P (leftover row a)
   unfolding leftover ended
   left-cases P closed unclosed =
       if-cases P (ltb row rows) _ _

@@ -12,10 +12,11 @@ use Rattle.state.specs.declared.Account.{Account}
 use Rattle.state.specs.Account.{rows, superseded, broken, aborted, badlength}
 use Rattle.translator.specs.declared.Outcome.{Outcome}
 use Rattle.translator.specs.Command.{commands, classIn}
+use Rattle.translator.specs.Effect.{leftover}
 use Rattle.translator.specs.Outcome.{numberOf}
 use Rattle.translator.specs.Transact.{Done}
 use Rattle.translator.specs.Properties.{Formed, noRow, ownRow, closesIn, closedRow, SameRow, Frames, EveryFrame, Adds, Closing, EveryClosing, Packet, openPacket, leftOpen, Leaves, EveryLeaving}
-use Rattle.translator.proofs.Ways.{leftover, Went, by-way}
+use Rattle.translator.proofs.Ways.{Went, by-way}
 use Rattle.translator.proofs.Acts.{whereOpen, SameBeside, closes-in, closed-is, same, then-same, adds-then-same, same-then-adds, left-beside, left-open, left-formed, left-same, left-adds, own-not-closed, Beside, act-beside, act-same, act-apart, act-leaves, no-fragment-leaves}
 
 -- a transaction that was counted

@@ -17,11 +17,12 @@ use Rattle.translator.specs.declared.Cause.the-variants as cause
 use Rattle.translator.specs.declared.Outcome.{Outcome}
 use Rattle.translator.specs.declared.Outcome.the-variants as outcome
 use Rattle.translator.specs.Command.{commands, classIn}
+use Rattle.translator.specs.Effect.{leftover}
 use Rattle.translator.specs.Outcome.{numberOf}
 use Rattle.translator.specs.Transact.{Done}
 use Rattle.translator.specs.Properties.{closesIn, completes, Packet, leftOpen, Keeps, EveryKeeping}
 use Rattle.translator.proofs.Frame.{left-is}
-use Rattle.translator.proofs.Ways.{leftover, storeAfter, Ready, Went, by-way}
+use Rattle.translator.proofs.Ways.{storeAfter, Ready, Went, by-way}
 
 nothing-changes : (at size : ℕ) (o : Outcome) (store : List ℕ) → Keeps at size o store store
 nothing-changes at size o store =

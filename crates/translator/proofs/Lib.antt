@@ -1,6 +1,7 @@
 pub mod Acts
 pub mod Added
 pub mod Commands
+pub mod Effects
 pub mod Frame
 pub mod Keeping
 pub mod Laws

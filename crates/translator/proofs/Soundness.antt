@@ -10,11 +10,10 @@ use borrow.Author.Tests.{ltb-true}
 use Rattle.prelude.specs.Choice.{if_then_else_}
 use Rattle.prelude.proofs.Tests.{if-cases}
 use Rattle.state.specs.declared.Account.{Account}
-use Rattle.state.specs.Account.{limit, maxMaximum, rows, superseded, aborted, badlength, allFragments}
+use Rattle.state.specs.Account.{limit, maxMaximum, rows, aborted, badlength, allFragments}
 use Rattle.state.specs.Sound.{sound}
 use Rattle.state.proofs.Sound.{Sound, Bounds, sound-tells, sound-if, sound-bounds}
 use Rattle.translator.specs.Counting.{addTo, recounted, ended, single, grown, finished, commanded}
-use Rattle.translator.specs.Transact.{begun}
 use Rattle.translator.specs.Properties.{Formed}
 use Rattle.translator.proofs.Added.{added-fragments, added-rows-sound, added-singles-sound}
 
@@ -148,15 +147,6 @@ module _ (a : Account) (formed : Formed a) (h : sound a ≡ true) where
   pub ended-total : (row : ℕ) → ended row a .total ≡ a .total
   unfolding ended
   ended-total row = if-cases (λ (b : Account). b .total ≡ a .total) _ _ _ (λ _. refl) (λ _. refl)
-
--- what the next count asks of an account whose open packet has ended
-pub ended-ready : (a : Account) → Formed a → sound a ≡ true → a .total < limit → (row : ℕ) → row < aborted → (sound (ended row a) ≡ true) × (ended row a .total < limit)
-ended-ready a formed h less row l = (ended-sound a formed h row l, rw (ended-total a formed h row) less)
-
-pub begun-ready : (a : Account) → Formed a → sound a ≡ true → a .total < limit → (first : Bool) → (sound (begun first a) ≡ true) × (begun first a .total < limit)
-unfolding begun
-begun-ready a formed h less first =
-    if-cases (λ (b : Account). (sound b ≡ true) × (b .total < limit)) first _ _ (λ _. ended-ready a formed h less superseded (omega arith)) (λ _. (h, less))
 
 -- a fragment of at most the account's maximum is one of at most 240
 pub within-maximum : (a : Account) (size : ℕ) → sound a ≡ true → size ≤ a .maximum → size ≤ maxMaximum

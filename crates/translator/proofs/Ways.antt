@@ -31,15 +31,12 @@ use Rattle.translator.specs.declared.command.Class.{Class}
 use Rattle.translator.specs.declared.command.Class.the-variants as class
 use Rattle.translator.specs.Command.{commands, classIn, hasBothFlags}
 use Rattle.translator.specs.Counting.{ended, single, grown, finished, commanded}
+use Rattle.translator.specs.Effect.{leftover}
 use Rattle.translator.specs.Outcome.{numberOf}
 use Rattle.translator.specs.Transact.{Stored, Done, done, with, badLength, begun, lastJudged, joined, bySequence, sequenceOf, fragment, isTaken, enable, unknown, inStore, byClass, transacted}
 use Rattle.translator.specs.Properties.{Formed, Every, noRow, ownRow, fragmentCloses, closesIn, completes}
 use Rattle.translator.proofs.Added.{same-or-not}
 use Rattle.translator.proofs.Soundness.{not-full}
-
--- what is left of an account once its open packet has ended in a row, or in none
-unfoldable pub leftover : ℕ → Account → Account
-leftover row a = if ltb row rows then ended row a else a
 
 -- what is counted then: a fragment alone in a row, one that its packet takes in, a Last that ends it in a row, or a command
 pub data Act : Type 0 where
@@ -246,7 +243,7 @@ module _ (a : Account) (r : Ready a) (store settings bytes : List ℕ) (s : sett
       by-flags true = record { act = commands-it false; fits = is-unknown; account-is = refl; store-is = refl; settings-are = same-settings 7 }
       by-flags false = record { act = commands-it false; fits = is-unknown; account-is = refl; store-is = refl; settings-are = same-settings 7 }
 
-  by-class-goes : (c : Class) (command : ℕ) (linkUp : Bool) → Went a store settings bytes (closesIn c command) (byClass c command bytes linkUp a store settings)
+  pub by-class-goes : (c : Class) (command : ℕ) (linkUp : Bool) → Went a store settings bytes (closesIn c command) (byClass c command bytes linkUp a store settings)
   unfolding byClass closesIn enable leftover if_then_else_
   by-class-goes class.First command linkUp = fragment-goes true false linkUp
   by-class-goes class.Middle command linkUp = fragment-goes false false linkUp

@@ -1,7 +1,10 @@
 -- The grid as rows of three, as the code holds it while it adds to a row.
 use Prim.Native.Nat.{ℕ, _+_}
 use mathlib.Core.List.{List, [], _∷_}
+use lib.Dec.{ltb}
 use lib.ListN.{getD, set}
+use Rattle.prelude.specs.Choice.{if_then_else_}
+use Rattle.state.specs.Account.{rows}
 
 abbrev pub rowFrom : List ℕ → ℕ → List ℕ
 rowFrom grid at = getD grid at 0 ∷ getD grid (at + 1) 0 ∷ getD grid (at + 2) 0 ∷ []
@@ -22,3 +25,7 @@ flatOf r =
 
 abbrev pub addedTo : List (List ℕ) → ℕ → ℕ → ℕ → ℕ → List (List ℕ)
 addedTo r row packets fragments bytes = set r row ((cell r row 0 + packets) ∷ (cell r row 1 + fragments) ∷ (cell r row 2 + bytes) ∷ [])
+
+-- and where no row is named, the rows as they were
+unfoldable pub inRows : List (List ℕ) → ℕ → ℕ → ℕ → ℕ → List (List ℕ)
+inRows r row packets fragments bytes = if ltb row rows then addedTo r row packets fragments bytes else r

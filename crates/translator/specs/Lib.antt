@@ -1,5 +1,6 @@
 pub mod Command
 pub mod Counting
+pub mod Effect
 pub mod Grid
 pub mod Outcome
 pub mod Properties

@@ -4,6 +4,9 @@ mod command;
 mod counting;
 
 use command::Class;
+use counting::Before;
+use counting::Effect;
+use counting::Left;
 use settings::Enabled;
 use state::Account;
 ghost use mathlib.Core.Bool.{true};
@@ -11,12 +14,15 @@ ghost use mathlib.Core.Path.{_≡_};
 ghost use Prim.Native.Nat.{_≤_, _<_};
 ghost use lib.ListN.{length};
 ghost use Rattle.settings.specs.Enable.{answered};
+ghost use Rattle.settings.specs.Record.{sound as settingsSound};
+ghost use Rattle.state.specs.declared.Account.{Account};
 ghost use Rattle.state.specs.Account.{limit, maxMaximum};
 ghost use Rattle.state.specs.Sound.{sound};
 ghost use Rattle.translator.specs.Command.{commands, classIn};
+ghost use Rattle.translator.specs.Effect.{Fits, JudgesAs, Within, beforeOf, begun as Effect·begun, holding, made};
 ghost use Rattle.translator.specs.Outcome.{causeNumber, numberOf, sentLengthOf};
 ghost use Rattle.translator.specs.Transact.{stored, done, badLength, sequenceOf, isTaken, byClass, transacted};
-ghost use Rattle.translator.specs.Transact.{begun as Transact·begun, enable as Transact·enable, fragment as Transact·fragment, joined as Transact·joined, lastJudged, unknown as Transact·unknown};
+ghost use Rattle.translator.specs.Transact.{enable as Transact·enable, fragment as Transact·fragment, joined as Transact·joined, lastJudged, unknown as Transact·unknown};
 
 // Why a fragment or its packet was not sent.
 pub enum Cause {
@@ -55,6 +61,12 @@ pub enum Outcome {
 pub struct Transacted {
     pub account: Account,
     pub outcome: Outcome,
+}
+
+// What a transaction does to the account, and what it is answered.
+struct Judged {
+    effect: Effect,
+    outcome: Outcome,
 }
 
 // What a fragment of an allowed length is to the open packet.
@@ -111,7 +123,7 @@ pub fn transact(
     step(account, store, settings, command, bytes, link_up)
 }
 
-// A transaction on an account that is sound and not full.
+// A transaction on an account that is sound and not full, and on a sound record.
 fn step(
     account: Account,
     store: &mut [u8],
@@ -120,55 +132,79 @@ fn step(
     bytes: &[u8],
     link_up: bool,
 ) -> Transacted
-    requires { ⌜ (sound account ≡ true) × (account .total < limit) ⌝ }
+    requires { ⌜ (sound account ≡ true) × (account .total < limit) × (settingsSound (now settings) ≡ true) ⌝ }
     ensures { λ r. ⌜ done r (now (store .exit)) (now (settings .exit)) ≡ byClass (classIn commands command) command (now (bytes .entry)) «link_up» account (now (store .entry)) (now (settings .entry)) ⌝ }
 {
+    let before = Before {
+        maximum: account.maximum,
+        open_fragments: account.open_fragments,
+        open_bytes: account.open_bytes,
+    };
+    let judged = judge(before, store, settings, command, bytes, link_up);
+    let effect = judged.effect;
+    let outcome = judged.outcome;
+    Transacted {
+        account: counting::applied(account, effect),
+        outcome,
+    }
+}
+
+// What a transaction does and is answered, of which nothing in the account is changed yet.
+fn judge(
+    before: Before,
+    store: &mut [u8],
+    settings: &mut [u8],
+    command: u8,
+    bytes: &[u8],
+    link_up: bool,
+) -> Judged
+    requires { ⌜ Fits before ⌝ }
+    ensures { λ r. ⌜ ((a : Account) → done (made r (holding before a)) (now (store .exit)) (now (settings .exit)) ≡ byClass (classIn commands command) command (now (bytes .entry)) «link_up» (holding before a) (now (store .entry)) (now (settings .entry))) ⌝ }
+{
     match command::class_of(command) {
-        Class::First => fragment(account, store, bytes, true, false, link_up),
-        Class::Middle => fragment(account, store, bytes, false, false, link_up),
-        Class::Last => fragment(account, store, bytes, false, true, link_up),
-        Class::Whole => fragment(account, store, bytes, true, true, link_up),
-        Class::Enable => enable(account, settings, bytes),
-        Class::Unknown => unknown(account, command),
+        Class::First => fragment(before, store, bytes, true, false, link_up),
+        Class::Middle => fragment(before, store, bytes, false, false, link_up),
+        Class::Last => fragment(before, store, bytes, false, true, link_up),
+        Class::Whole => fragment(before, store, bytes, true, true, link_up),
+        Class::Enable => enable(settings, bytes),
+        Class::Unknown => unknown(before, command),
     }
 }
 
 fn fragment(
-    account: Account,
+    before: Before,
     store: &mut [u8],
     bytes: &[u8],
     first: bool,
     last: bool,
     link_up: bool,
-) -> Transacted
-    requires { ⌜ (sound account ≡ true) × (account .total < limit) ⌝ }
-    ensures { λ r. ⌜ stored r (now (store .exit)) ≡ Transact·fragment (now (bytes .entry)) first last «link_up» account (now (store .entry)) ⌝ }
+) -> Judged
+    requires { ⌜ Fits before ⌝ }
+    ensures { λ r. ⌜ ((a : Account) → stored (made r (holding before a)) (now (store .exit)) ≡ Transact·fragment (now (bytes .entry)) first last «link_up» (holding before a) (now (store .entry))) ⌝ }
 {
     let size = bytes.len() as u64;
     if size < 1 {
-        return bad_length(account);
+        return bad_length();
     }
-    if account.maximum < size {
-        return bad_length(account);
+    if before.maximum < size {
+        return bad_length();
     }
-    let sequence = sequence_of(first, account.open_fragments, account.open_bytes);
+    let sequence = sequence_of(first, before.open_fragments, before.open_bytes);
     let Sequence::Joins(at) = sequence else {
-        return Transacted {
-            account: counting::single(account, state::ABORTED, size),
+        return Judged {
+            effect: counting::single(counting::kept(before), state::ABORTED, size),
             outcome: Outcome::Discarded(Cause::Aborted),
         };
     };
-    joined(begun(account, first), store, at, bytes, last, link_up)
+    joined(begun(first, before), store, at, bytes, last, link_up)
 }
 
 // A fragment of a bad length breaks the open packet.
-fn bad_length(account: Account) -> Transacted
-    requires { ⌜ (sound account ≡ true) × (account .total < limit) ⌝ }
-    ensures { λ r. ⌜ r ≡ badLength account ⌝ }
+fn bad_length() -> Judged
+    ensures { λ r. ⌜ ((a : Account) → Fits (beforeOf a) → made r a ≡ badLength a) ⌝ }
 {
-    let broken = counting::ended(account, state::BROKEN);
-    Transacted {
-        account: counting::single(broken, state::BADLENGTH, 0),
+    Judged {
+        effect: counting::single(counting::ended(state::BROKEN), state::BADLENGTH, 0),
         outcome: Outcome::Discarded(Cause::BadLength),
     }
 }
@@ -186,79 +222,69 @@ fn sequence_of(first: bool, open_fragments: u64, open_bytes: u64) -> Sequence
 }
 
 // A First supersedes the open packet.
-fn begun(account: Account, first: bool) -> Account
-    requires { ⌜ sound account ≡ true ⌝ }
-    ensures { λ r. ⌜ r ≡ Transact·begun first account ⌝ }
+fn begun(first: bool, before: Before) -> Left
+    ensures { λ r. ⌜ r ≡ Effect·begun first before ⌝ }
 {
     if first {
-        return counting::ended(account, state::SUPERSEDED);
+        return counting::ended(state::SUPERSEDED);
     }
-    account
+    counting::kept(before)
 }
 
 // A fragment is written behind the first `at` bytes, and counted to the open packet.
-fn joined(
-    account: Account,
-    store: &mut [u8],
-    at: u64,
-    bytes: &[u8],
-    last: bool,
-    link_up: bool,
-) -> Transacted
-    requires { ⌜ (sound account ≡ true) × (account .total < limit) × (length (now bytes) ≤ maxMaximum) ⌝ }
-    ensures { λ r. ⌜ stored r (now (store .exit)) ≡ Transact·joined at (now (bytes .entry)) last «link_up» account (now (store .entry)) ⌝ }
+fn joined(left: Left, store: &mut [u8], at: u64, bytes: &[u8], last: bool, link_up: bool) -> Judged
+    requires { ⌜ Within (left .fragments) (left .bytes) × (length (now bytes) ≤ maxMaximum) ⌝ }
+    ensures { λ r. ⌜ JudgesAs left r (now (store .exit)) (λ a. Transact·joined at (now (bytes .entry)) last «link_up» a (now (store .entry))) ⌝ }
 {
     let size = bytes.len() as u64;
     packet::append(store, at, bytes);
     if last {
-        return last_judged(account, store, size, link_up);
+        return last_judged(left, store, size, link_up);
     }
-    Transacted {
-        account: counting::grown(account, size),
+    Judged {
+        effect: counting::grown(left, size),
         outcome: Outcome::Taken,
     }
 }
 
 // A Last completes its packet, which is sent unless it is too long, too short or the link is down.
-fn last_judged(account: Account, store: &mut [u8], size: u64, link_up: bool) -> Transacted
-    requires { ⌜ (sound account ≡ true) × (account .total < limit) × (size ≤ maxMaximum) ⌝ }
-    ensures { λ r. ⌜ stored r (now (store .exit)) ≡ lastJudged size «link_up» account (now (store .entry)) ⌝ }
+fn last_judged(left: Left, store: &mut [u8], size: u64, link_up: bool) -> Judged
+    requires { ⌜ Within (left .fragments) (left .bytes) × (size ≤ maxMaximum) ⌝ }
+    ensures { λ r. ⌜ JudgesAs left r (now (store .exit)) (λ a. lastJudged size «link_up» a (now (store .entry))) ⌝ }
 {
-    let total = account.open_bytes + size;
+    let total = left.bytes + size;
     if packet::MAX_PACKET < total {
-        return Transacted {
-            account: counting::finished(account, state::OVER, size),
+        return Judged {
+            effect: counting::finished(left, state::OVER, size),
             outcome: Outcome::Discarded(Cause::Over),
         };
     }
     if total < MIN_PACKET {
-        return Transacted {
-            account: counting::finished(account, state::SHORT, size),
+        return Judged {
+            effect: counting::finished(left, state::SHORT, size),
             outcome: Outcome::Discarded(Cause::Short),
         };
     }
     if !link_up {
-        return Transacted {
-            account: counting::finished(account, state::LINKDOWN, size),
+        return Judged {
+            effect: counting::finished(left, state::LINKDOWN, size),
             outcome: Outcome::Discarded(Cause::LinkDown),
         };
     }
     packet::fill(store, total);
-    Transacted {
-        account: counting::finished(account, state::SENT, size),
+    Judged {
+        effect: counting::finished(left, state::SENT, size),
         outcome: Outcome::Sent(packet::sent_length(total)),
     }
 }
 
 // A Receive Enable flushes the open packet, whatever it is answered.
-fn enable(account: Account, settings: &mut [u8], bytes: &[u8]) -> Transacted
-    requires { ⌜ (sound account ≡ true) × (account .total < limit) ⌝ }
-    ensures { λ r. ⌜ answered r (now (settings .exit)) ≡ Transact·enable (now (bytes .entry)) account (now (settings .entry)) ⌝ }
+fn enable(settings: &mut [u8], bytes: &[u8]) -> Judged
+    ensures { λ r. ⌜ ((a : Account) → Fits (beforeOf a) → answered (made r a) (now (settings .exit)) ≡ Transact·enable (now (bytes .entry)) a (now (settings .entry))) ⌝ }
 {
-    let flushed = counting::ended(account, state::FLUSHED);
     let enabled = settings::receive_enable(settings, bytes);
-    Transacted {
-        account: counting::commanded(flushed, is_taken(enabled)),
+    Judged {
+        effect: counting::commanded(counting::ended(state::FLUSHED), is_taken(enabled)),
         outcome: Outcome::Enable(enabled),
     }
 }
@@ -277,19 +303,18 @@ fn is_taken(enabled: Enabled) -> bool
 }
 
 // An unknown command flushes the open packet where F and L are both set.
-fn unknown(account: Account, command: u8) -> Transacted
-    requires { ⌜ (sound account ≡ true) × (account .total < limit) ⌝ }
-    ensures { λ r. ⌜ r ≡ Transact·unknown command account ⌝ }
+fn unknown(before: Before, command: u8) -> Judged
+    requires { ⌜ Fits before ⌝ }
+    ensures { λ r. ⌜ ((a : Account) → made r (holding before a) ≡ Transact·unknown command (holding before a)) ⌝ }
 {
     if command::has_both_flags(command) {
-        let flushed = counting::ended(account, state::FLUSHED);
-        return Transacted {
-            account: counting::commanded(flushed, false),
+        return Judged {
+            effect: counting::commanded(counting::ended(state::FLUSHED), false),
             outcome: Outcome::Unknown,
         };
     }
-    Transacted {
-        account: counting::commanded(account, false),
+    Judged {
+        effect: counting::commanded(counting::kept(before), false),
         outcome: Outcome::Unknown,
     }
 }

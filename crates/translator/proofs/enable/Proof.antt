@@ -1,30 +1,26 @@
 use native.Mathlib.Omega.{arith}
 use borrow.Author.Needs.{needs}
 use Rattle.state.specs.Account.{flushed}
-use Rattle.translator.proofs.Soundness.{ended-ready}
 use Rattle.translator.specs.Transact.{enable}
+use Rattle.translator.proofs.Effects.{ended-answered}
 use Rattle.translator.proofs.enable.Statement.{statement}
 use Rattle.translator.proofs.enable.Tie as tie
 
-commanded-requires : tie.Need-commanded-requires
-commanded-requires c κs =
-    let flushes : _ = c .before .before .before .before .before in
-    let entry : _ = flushes .before .before .before in
-    rw (flushes .ended .ensures) (ended-ready (entry .args .account) (search needs) (entry .pre .0) (entry .pre .1) flushed (omega arith))
-
 returns : tie.Need-returns
 unfolding enable
-returns c =
-    let enables : _ = c .before .before .before .before in
-    rw (c .commanded .ensures, c .before .is-taken .ensures, enables .before .before .ended .ensures, ← enables .receive-enable .ensures)
+returns c a fits =
+    let taken : _ = c .before in
+    let ends : _ = taken .before in
+    rw (← ends .before .before .before .receive-enable .ensures, ← taken .is-taken .ensures)
+    (ended-answered _ _ _ (c .commanded .ensures) a _ flushed (ends .ended .ensures) (omega arith) fits)
 
 pub enable-spec : {M : Type 1} → statement M
 enable-spec =
     tie.close
     (tie.spec
+    (search needs)
     (λ c κs. search needs)
     (search needs)
-    (search needs)
-    commanded-requires
+    (λ c κs. search needs)
     (search needs)
     returns)

@@ -9,13 +9,19 @@ unfolding joined
 returns c =
     let judged : _ = c .before .before in
     let at-append : _ = judged .before .before .before .before .before in
-    rw (judged .last-judged .ensures, at-append .append .ensures) (search tests)
+    record {
+      closes = judged .last-judged .ensures .closes;
+      acts = λ a. rw (judged .last-judged .ensures .acts a, at-append .append .ensures) (search tests);
+    }
 
 returns-2 : tie.Need-returns-2
 unfolding joined
 returns-2 c =
     let at-append : _ = c .before .before .before .before in
-    rw (c .grown .ensures, at-append .append .ensures) (search tests)
+    record {
+      closes = c .grown .ensures .closes;
+      acts = λ a. rw (c .grown .ensures .acts a, at-append .append .ensures) (search tests);
+    }
 
 pub joined-spec : {M : Type 1} → statement M
 joined-spec =

@@ -1,73 +1,37 @@
-use mathlib.Core.Path.{_∙_, sym}
+use mathlib.Core.Bool.{true}
+use mathlib.Core.Path.{_≡_, sym, subst}
 use borrow.Author.Needs.{needs}
-use Rattle.translator.specs.Transact.{byClass}
+use Rattle.state.specs.Sound.{sound}
+use Rattle.translator.specs.Transact.{Done}
+use Rattle.translator.proofs.Effects.{sound-fits}
+use Rattle.translator.proofs.Properties.{counted-stays-sound}
+use Rattle.translator.proofs.Ways.{Ready}
 use Rattle.translator.proofs.step.Statement.{statement}
 use Rattle.translator.proofs.step.Tie as tie
 
+judge-requires : tie.Need-judge-requires
+judge-requires c κs =
+    let entry : _ = c .before .before .before .before .before in
+    sound-fits (entry .args .account) (entry .pre .0)
+
+ready : (c : tie.Start) → Ready (c .args .account)
+ready c = record { formed = search needs; is-sound = c .pre .0; room = c .pre .1 }
+
+-- the account that comes out is sound, by the rules
+applied-requires : tie.Need-applied-requires
+applied-requires c κs =
+    let judges : _ = c .before .before .before .before .before in
+    let entry : _ = judges .before .before .before .before .before .before in
+    let args : _ = entry .args in (
+      entry .pre .0,
+      subst (λ (d : Done). sound (d .result .account) ≡ true) (sym (judges .judge .ensures (args .account)))
+          (counted-stays-sound (args .account) _ _ (args .command) _ (args .link-up) (ready entry) (entry .pre .2)),
+    )
+
 returns : tie.Need-returns
-unfolding byClass
 returns c =
-    let calls : _ = c .before .before in
-    let told : _ = calls .before .before in
-    rw (sym (told .before .before .class-of .ensures) ∙ told .enum-told .given .1, ← calls .fragment .ensures)
-
-returns-2 : tie.Need-returns-2
-unfolding byClass
-returns-2 c =
-    let calls : _ = c .before .before in
-    let told : _ = calls .before .before in
-    rw (sym (told .before .before .class-of .ensures) ∙ told .enum-told2 .given .1, ← calls .fragment2 .ensures)
-
-returns-3 : tie.Need-returns-3
-unfolding byClass
-returns-3 c =
-    let calls : _ = c .before .before in
-    let told : _ = calls .before .before in
-    rw (sym (told .before .before .class-of .ensures) ∙ told .enum-told3 .given .1, ← calls .fragment3 .ensures)
-
-returns-4 : tie.Need-returns-4
-unfolding byClass
-returns-4 c =
-    let calls : _ = c .before .before in
-    let told : _ = calls .before .before in
-    rw (sym (told .before .before .class-of .ensures) ∙ told .enum-told4 .given .1, ← calls .fragment4 .ensures)
-
-returns-5 : tie.Need-returns-5
-unfolding byClass
-returns-5 c =
-    let calls : _ = c .before .before in
-    let told : _ = calls .before .before in
-    rw (sym (told .before .before .class-of .ensures) ∙ told .enum-told5 .given .1, ← calls .enable .ensures)
-
-returns-6 : tie.Need-returns-6
-unfolding byClass
-returns-6 c = rw (sym (c .before .before .before .class-of .ensures) ∙ c .before .enum-told6 .given .1, c .unknown .ensures)
+    let judges : _ = c .before .before .before .before .before .before in
+    rw (c .applied .ensures) (judges .judge .ensures (judges .before .before .before .before .before .before .args .account))
 
 pub step-spec : {M : Type 1} → statement M
-step-spec =
-    tie.close
-    (tie.spec
-    (search needs)
-    (search needs)
-    (λ c κs. search needs)
-    (search needs)
-    (λ c κs. search needs)
-    (search needs)
-    (λ c κs. search needs)
-    (search needs)
-    (λ c κs. search needs)
-    (search needs)
-    (λ c κs. search needs)
-    (search needs)
-    (λ c κs. search needs)
-    (search needs)
-    returns
-    (search needs)
-    returns-2
-    (search needs)
-    returns-3
-    (search needs)
-    returns-4
-    (search needs)
-    returns-5
-    returns-6)
+step-spec = tie.close (tie.spec judge-requires applied-requires (search needs) (search needs) returns)

@@ -27,9 +27,10 @@ returns-5 c =
 
 step-requires : tie.Need-step-requires
 step-requires c κs =
-    let else3 : _ = c .before .before .before .before .before .before .before in
+    let else4 : _ = c .before .before .before .before in
+    let else3 : _ = else4 .before .before .before in
     let s : _ = sym (else3 .before .is-sound .ensures) ∙ not-false _ (else3 .if3 .left) in
-    (s, not-full (else3 .before .before .before .before .before .before .before .args .account) s (c .before .before .if5 .left))
+    (s, not-full (else3 .before .before .before .before .before .before .before .args .account) s (c .before .before .if5 .left), sym (else4 .before .is-sound2 .ensures) ∙ not-false _ (else4 .if4 .left))
 
 -- past every test, the command decides
 by-command : (c : tie.Else5) →

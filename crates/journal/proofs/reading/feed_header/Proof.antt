@@ -6,7 +6,8 @@ use Rattle.state.specs.declared.Account.{Account}
 use Rattle.state.specs.declared.Made.{Made}
 use Rattle.journal.specs.Feeding.{after, byHeader, recordsFed}
 use Rattle.journal.specs.declared.reading.Fed.{Fed}
-use Rattle.journal.proofs.Headers.{Good, good, made-good}
+use Rattle.state.proofs.FreshAccounts.{made-fresh}
+use Rattle.journal.proofs.Headers.{Good, good}
 use Rattle.journal.proofs.reading.feed_header.Statement.{statement}
 use Rattle.journal.proofs.reading.feed_header.Tie as tie
 
@@ -32,7 +33,7 @@ returns-3 c =
     rw (sym (c .before .before .before .before .before .before .before .before .before .before .before .before .read-header .ensures) ∙ c .before .before .before .before .before .before .before .before .before .before .maximum .given .1)
     (c .before .before .before .before .feed-records .ensures
     ∙ ap (λ (a : Account). recordsFed a (now (c .before .before .before .before .before .before .before .before .before .before .before .before .before .before .before .before .args .store)) (now (c .before .before .before .before .before .before .before .before .before .before .before .before .before .before .before .before .args .settings)) 6 (drop 6 (now (c .before .before .before .before .before .before .before .before .before .before .before .before .before .before .before .before .args .part))))
-    (ap (λ (m : Made). m .account) (c .before .before .before .before .before .before .before .before .fresh .ensures) ∙ made-good _ (h .least) (h .most)))
+    (ap (λ (m : Made). m .account) (c .before .before .before .before .before .before .before .before .fresh .ensures) ∙ made-fresh _ (h .least) (h .most)))
 
 pub feed-header-spec : {M : Type 1} → statement M
 feed-header-spec =

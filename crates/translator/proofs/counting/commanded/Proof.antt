@@ -1,28 +1,16 @@
-use native.Mathlib.Omega.{arith}
-use borrow.Author.Needs.{needs}
-use Rattle.prelude.proofs.Tests.{tests}
-use Rattle.translator.proofs.Rows.{open-fits}
-use Rattle.translator.specs.Counting.{commanded}
+use mathlib.Core.Bool.{true, false}
+use Rattle.prelude.specs.Choice.{if_then_else_}
+use Rattle.translator.proofs.Effects.{commanded-acts}
 use Rattle.translator.proofs.counting.commanded.Statement.{statement}
 use Rattle.translator.proofs.counting.commanded.Tie as tie
 
-add-after-2 : tie.Need-add-after-2
-add-after-2 c =
-    let entry : _ = c .before .before .before in
-    record { fits = omega (arith, open-fits (entry .args .account) (entry .pre .0) .taken) }
+returns : tie.Need-returns
+unfolding if_then_else_
+returns c = rw (c .if1 .taken) (commanded-acts (c .before .args .left) true)
 
-add-after-3 : tie.Need-add-after-3
-add-after-3 c =
-    let entry : _ = c .before .before .before in
-    record { fits = omega (arith, open-fits (entry .args .account) (entry .pre .0) .refused) }
+returns-2 : tie.Need-returns-2
+unfolding if_then_else_
+returns-2 c = rw (c .if1 .left) (commanded-acts (c .before .args .left) false)
 
 pub commanded-spec : {M : Type 1} → statement M
-unfolding commanded
-commanded-spec =
-    tie.close
-    (tie.spec
-    (search needs)
-    add-after-2
-    (λ c. search tests)
-    add-after-3
-    (λ c. search tests))
+commanded-spec = tie.close (tie.spec returns returns-2)
