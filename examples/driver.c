@@ -30,6 +30,12 @@ static bool bus_next(struct transaction *next)
     return true;
 }
 
+/* Tells the management controller that its fragment belongs to no packet. */
+static void bus_abort(void)
+{
+    printf("abort status\n");
+}
+
 static void network_send(const uint8_t *packet, size_t length)
 {
     printf("packet of %zu bytes:", length);
@@ -55,6 +61,12 @@ int main(void)
                                        next.command, next.bytes, next.length, next.link_up);
         if (reply.answer == TCO_SENT)
             network_send(store, tco_shown(store, sizeof store, reply.sent));
+        if (reply.answer == TCO_ABORTED)
+            bus_abort();
+        if (reply.answer >= TCO_NO_ROOM) {
+            fprintf(stderr, "not counted: answer %u\n", (unsigned)reply.answer);
+            return EXIT_FAILURE;
+        }
     }
 
     fwrite(printout, 1, tco_print_account(account, printout, sizeof printout), stdout);

@@ -8,8 +8,9 @@
  * - What one call is handed does not overlap, but for buffers that it only reads, and nothing else
  *   writes there during the call.
  * - A bool is 0 or 1.
- * - Account, store, settings and the Set Link word are handed back unaltered to the next call. They
- *   are the caller's: nothing is kept between calls.
+ * - Account, store, settings and the Set Link word are handed back unaltered to the next call: else
+ *   the account is no longer that of the transactions. They are the caller's: nothing is kept between
+ *   calls.
  */
 #ifndef TCO_H
 #define TCO_H
@@ -26,7 +27,7 @@ extern "C" {
 enum {
     TCO_TAKEN = 0,          /* fragment taken, its packet stays open; or done */
     TCO_SENT = 1,           /* packet sent, with its sent length */
-    TCO_ABORTED = 2,        /* fragment not First, and no packet open */
+    TCO_ABORTED = 2,        /* fragment not First, none open: assert the abort status */
     TCO_BAD_LENGTH = 3,     /* fragment of 0 bytes or above the maximum */
     TCO_OVER = 4,           /* packet of more than 1536 bytes, discarded */
     TCO_SHORT = 5,          /* packet of fewer than 17 bytes, discarded */
@@ -34,7 +35,7 @@ enum {
     TCO_UNKNOWN = 7,        /* unknown command */
     TCO_ENABLE_LENGTH = 8,  /* Receive Enable not of 1 or 14 bytes */
     TCO_ENABLE_CONTROL = 9, /* control byte not allowed */
-    TCO_ENABLE_NO_MAC = 10, /* dedicated MAC asked for, and none kept */
+    TCO_ENABLE_NO_MAC = 10, /* dedicated MAC asked for, short form, and none kept */
     TCO_ENABLED = 11,       /* Receive Enable taken */
     TCO_NO_ROOM = 12,       /* store or settings too short; nothing changed */
     TCO_NOT_SOUND = 13,     /* account or settings not sound; nothing changed */
@@ -94,11 +95,12 @@ typedef struct {
 } tco_part;
 
 typedef struct {
-    uint16_t length, vlan;
+    uint16_t length; /* 1 to 1536, with the check bytes */
+    uint16_t vlan;   /* the tag */
     bool decision_match;
-    uint8_t decision_index;
+    uint8_t decision_index; /* 0 to 15; 0 without a match */
     bool vlan_match;
-    uint8_t vlan_index;
+    uint8_t vlan_index; /* 0 to 7; 0 without a match */
 } tco_status;
 
 typedef struct {

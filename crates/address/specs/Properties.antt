@@ -14,7 +14,7 @@ abbrev pub sizeOf : Address → ℕ
 sizeOf Mac = macSize
 sizeOf Ipv4 = ipv4Size
 
--- a whole address, or an empty part exactly "if either buffer is too short or the record not sound"
+-- a whole address, or: "If either buffer is too short or the record not sound, the part is empty."
 pub record Shows (address : Address) (settings flash : RefT (List ℕ)) : Type 0 where
   pub whole : sound (now settings) ≡ true → flashSize ≤ length (now flash) → length (inForce address settings flash .bytes) ≡ sizeOf address
   pub short-record : length (now settings) < size → inForce address settings flash .bytes ≡ []

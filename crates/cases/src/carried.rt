@@ -10,7 +10,7 @@ use crate::buffer::part;
 use crate::buffer::put_all;
 use crate::number::pair;
 use crate::number::put_u16;
-use translator::Outcome;
+use outcome::Outcome;
 
 pub(crate) const MAX_STORE: usize = 2048;
 

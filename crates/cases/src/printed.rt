@@ -70,7 +70,7 @@ fn answer_print(bytes: &Buffer, ends: &[usize], text: &mut Buffer) -> usize {
     let out = &mut space[0..room];
     pattern::fill(out, SEED);
     let account = account::of_bytes(fields::at(bytes, ends, 1));
-    let length = journal::print(account, out);
+    let length = printout::print(account, out);
     let end = put_u16(text, 0, (length % 65536) as u16);
     put_bytes(text, end, out)
 }

@@ -15,7 +15,7 @@ use crate::digest;
 use crate::fields;
 use crate::pattern;
 use crate::store;
-use translator::Outcome;
+use outcome::Outcome;
 
 const MAX_PATTERN: usize = 2048;
 
@@ -92,8 +92,8 @@ fn answer_send_pattern(
 }
 
 fn put_outcome(text: &mut Buffer, outcome: Outcome, carried: &Buffer) -> usize {
-    let end = put_u8(text, 0, (translator::number(outcome) % 256) as u8);
-    let end = put_u16(text, end, (translator::sent_length(outcome) % 65536) as u16);
+    let end = put_u8(text, 0, (outcome::number(outcome) % 256) as u8);
+    let end = put_u16(text, end, (outcome::sent_length(outcome) % 65536) as u16);
     let end = put_u32(text, end, digest::of_bytes(carried::account(carried)));
     let end = put_u32(text, end, digest::of_bytes(carried::store(carried)));
     put_u32(text, end, digest::of_bytes(carried::settings(carried)))

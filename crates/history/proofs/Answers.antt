@@ -2,8 +2,8 @@
 -- Assumes nothing.
 use Prim.Native.Nat.{ℕ, _+_, _<_, _≤_}
 use mathlib.Core.Bool.{Bool, true, false}
-use mathlib.Core.List.{List, [], _∷_, _++_, append-nil, append-assoc, reverseAux}
-use mathlib.Core.Path.{_≡_, refl, sym, ap, _∙_, subst}
+use mathlib.Core.List.{List, [], _∷_, _++_, append-nil, reverseAux}
+use mathlib.Core.Path.{_≡_, refl, sym, ap, _∙_}
 use native.Mathlib.Nat.{not-le-of-lt}
 use native.Mathlib.Omega.{arith}
 use lib.Dec.{ltb}
@@ -12,14 +12,13 @@ use lib.Seq.{take-all, take-append-le}
 use borrow.Author.Tests.{ltb-true, ltb-false}
 use Rattle.prelude.specs.Choice.{if_then_else_, _or_}
 use Rattle.prelude.proofs.Tests.{if-true, if-false}
-use Rattle.settings.specs.Record as settings-record
 use Rattle.state.specs.Account.{limit}
 use Rattle.history.specs.Lines.{opened}
 use Rattle.history.specs.Reading.{Entry, transaction, bringsMac, isMacKept, Role, fragment, ends, passes, roleOf, roles, rolesAfter}
 use Rattle.history.specs.Partition.{lineAt, linesAfter}
 use Rattle.history.specs.Calls.{Call, transact, reads, Kept, after, hasRoom, withRoom, mostCounted, counted}
 use Rattle.history.specs.Demand3.{maximumFor, fresh}
-use Rattle.history.specs.Answers.{answerLines, Answered, EveryAnswer}
+use Rattle.history.specs.Answers.{Answered, EveryAnswer}
 use Rattle.history.proofs.Ledger.{Ledger, nothing, fold, stepOn, lineOn, continuedLine}
 use Rattle.history.proofs.Ledger as on-ledger
 use Rattle.history.proofs.Back.{grows, heldBack, lineFrom, line-back}

@@ -18,7 +18,7 @@ use Rattle.packet.proofs.shown.Reads as shown-reads
 use Rattle.state.specs.declared.Account.{Account}
 use Rattle.translator.proofs.transact.Kinds as transact-kinds
 use Rattle.translator.proofs.transact.Reads as transact-reads
-use Rattle.translator.specs.Transact.{Done, done, transacted}
+use Rattle.translator.specs.Transact.{done, transacted}
 use Rattle.history.specs.Calls.{Kept, transact, leftBy, step, shownBytes}
 
 -- the account and the two buffers as `translator::transact` is handed them, by a caller who lends so much of what it keeps

@@ -5,7 +5,6 @@ use mathlib.Core.Bool.{Bool, true, false}
 use mathlib.Core.List.{List, [], _∷_, _++_, append-nil}
 use mathlib.Core.Path.{_≡_, refl, sym, ap, _∙_, subst}
 use native.Mathlib.Omega.{arith}
-use lib.Dec.{eqb, ltb}
 use lib.ListN.{length, length-append}
 use borrow.Author.Tests.{eqb-true, eqb-false, ne-eqb, eq-eqb, lt-ltb, le-ltb}
 use Rattle.prelude.specs.Choice.{if_then_else_}
@@ -15,8 +14,8 @@ use Rattle.state.specs.Account.{rows, columns, packetsIn, fragmentsIn, bytesIn}
 use Rattle.state.specs.Sound.{isOpen}
 use Rattle.translator.specs.Counting as counting
 use Rattle.translator.specs.Properties.{Formed}
-use Rattle.translator.proofs.Added.{Cells, added-length, added-here, added-elsewhere}
-use Rattle.history.specs.Lines.{Fate, rowOf, sent, superseded, flushed, broken, over, short, linkdown, aborted, badlength, Line, row, opened, taken, refused, lineNumber, Column, packets, fragments, bytes, isLine, inLine}
+use Rattle.translator.proofs.Added.{added-length, added-here, added-elsewhere}
+use Rattle.history.specs.Lines.{Fate, rowOf, sent, superseded, flushed, broken, over, short, linkdown, aborted, badlength, Line, row, taken, refused, lineNumber, Column, packets, fragments, bytes, isLine, inLine}
 use Rattle.history.specs.Runs.{concatenated, End, ended, Run, run, Single, single, lineOf, ofRun, ofSingle, countRuns, countSingles}
 use Rattle.history.proofs.Ledger.{Ledger, ledger, closing, count-runs-append, count-singles-append}
 

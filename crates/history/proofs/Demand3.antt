@@ -1,12 +1,12 @@
 -- After any calls from a fresh start, what the caller keeps is what the list of counted transactions says.
 -- Assumes nothing.
-use Prim.Native.Nat.{ℕ, zero, suc, _+_, _-_, _*_, _<_, _≤_}
+use Prim.Native.Nat.{ℕ, suc, _+_, _-_, _*_, _<_, _≤_}
 use mathlib.Core.Bool.{Bool, true, false}
-use mathlib.Core.List.{List, [], _∷_, _++_}
+use mathlib.Core.List.{List, [], _∷_}
 use mathlib.Core.Path.{_≡_, refl, sym, ap, _∙_, subst}
 use native.Mathlib.Nat.{add-zero}
 use native.Mathlib.Omega.{arith}
-use lib.Dec.{ltb, leb, eqb}
+use lib.Dec.{ltb}
 use lib.ListN.{length, getD, take, replicate, getD-replicate, length-take}
 use lib.Seq.{take-nil}
 use borrow.Author.Tests.{ltb-true, ltb-false, le-leb, lt-leb, le-ltb}
@@ -21,10 +21,10 @@ use Rattle.state.specs.Account.{limit, maxMaximum, rows, columns, freshAccount,
 use Rattle.state.proofs.FreshAccounts.{every-fresh as every-fresh-account}
 use Rattle.history.specs.Lines.{Fate, sent, rowOf, cellAt, Line, row, opened, taken, refused, lineNumber, Column, packets, fragments, bytes}
 use Rattle.history.specs.Reading.{Entry, transaction, bringsMac, isMacKept, Role, roleOf, roles, rolesAfter}
-use Rattle.history.specs.Runs.{concatenated, runs, Single, singlesAfter, countRuns, countSingles, countIn, openPieces, comparedFrom}
+use Rattle.history.specs.Runs.{concatenated, runs, Single, singlesAfter, countSingles, countIn, openPieces, comparedFrom}
 use Rattle.history.specs.Calls.{Call, transact, reads, Kept, step, after, hasRoom, withRoom, mostCounted, counted}
 use Rattle.history.specs.Demand3.{Agrees, maximumFor, fresh, Demand3, NeverUnsound}
-use Rattle.history.proofs.Ledger.{Ledger, nothing, closing, fold, fold-runs, fold-singles, fold-held, fold-sent, fold-account}
+use Rattle.history.proofs.Ledger.{Ledger, nothing, fold, fold-singles, fold-held, fold-sent, fold-account}
 use Rattle.history.proofs.Ledger as on-ledger
 use Rattle.history.proofs.Counts.{Counts, cellIn, row-in-grid}
 use Rattle.history.proofs.Enables.{macBit}

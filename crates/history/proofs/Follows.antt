@@ -1,39 +1,34 @@
 -- What the rules make of a transaction follows what its role does to the ledger.
 -- Assumes nothing.
-use Prim.Native.Nat.{ℕ, _+_, _<_, _≤_}
+use Prim.Native.Nat.{ℕ, _+_, _≤_}
 use mathlib.Core.Bool.{Bool, true, false}
 use mathlib.Core.List.{List, [], _∷_, _++_, append-nil}
 use mathlib.Core.Path.{_≡_, refl, sym, ap, _∙_, subst}
 use native.Mathlib.Omega.{arith}
-use lib.Dec.{eqb, ltb, leb}
+use lib.Dec.{ltb, leb}
 use lib.ListN.{length, getD, length-append}
-use borrow.Author.Tests.{eqb-true, ltb-false, lt-ltb, le-ltb, leb-true, leb-false}
-use Rattle.prelude.specs.Bits.{isSet}
+use borrow.Author.Tests.{ltb-false, leb-true, leb-false}
 use Rattle.prelude.specs.Choice.{if_then_else_, _and_, _or_}
 use Rattle.prelude.proofs.Tests.{if-true, if-false, if-cases, if-first, if-second}
 use Rattle.packet.specs.Store.{maxPacket, appended, filled, sentLength}
-use Rattle.settings.specs.Record as settings-record
-use Rattle.settings.specs.Enable.{receiveEnabled}
 use Rattle.state.specs.declared.Account.{Account}
-use Rattle.translator.specs.declared.Cause.the-variants as cause
-use Rattle.translator.specs.declared.Outcome.{Outcome}
-use Rattle.translator.specs.declared.Outcome.the-variants as outcome
+use Rattle.outcome.specs.declared.Cause.the-variants as cause
+use Rattle.outcome.specs.declared.Outcome.{Outcome}
+use Rattle.outcome.specs.declared.Outcome.the-variants as outcome
 use Rattle.translator.specs.declared.Transacted.{Transacted}
-use Rattle.translator.specs.Command.{hasBothFlags}
 use Rattle.translator.specs.Counting as counting
 use Rattle.translator.specs.Transact as transact
 use Rattle.translator.proofs.Laws.{fragment-empty, fragment-too-long, fragment-first, fragment-goes-on, fragment-aborted}
-use Rattle.history.specs.Lines.{Fate, rowOf, sent, superseded, flushed, broken, over, short, linkdown, aborted, badlength, Line, row, opened, taken, refused}
-use Rattle.history.specs.Reading.{transaction, isFragment, isLengthAllowed, isTaken, hasF, hasL, flush, badFragment, Role, fragment, ends, passes, commandLine, roleOf}
-use Rattle.history.specs.Runs.{concatenated, End, ended, Run, run, atLast, Single, single, withFill, ifSent, packetsSent}
+use Rattle.history.specs.Lines.{Fate, rowOf, sent, superseded, flushed, broken, over, short, linkdown, aborted, badlength, Line, row, opened, taken}
+use Rattle.history.specs.Reading.{transaction, isLengthAllowed, isTaken, flush, badFragment, Role, fragment, ends, passes}
+use Rattle.history.specs.Runs.{concatenated, ended, Run, run, atLast, single, withFill, ifSent, packetsSent}
 use Rattle.history.specs.Calls.{packetOf}
 use Rattle.history.specs.Answers.{answerLines}
-use Rattle.translator.specs.Outcome.{numberOf}
+use Rattle.outcome.specs.Outcome.{numberOf}
 use Rattle.history.proofs.Ledger.{Ledger, ledger, closing, takenIn, continued, takenInLine, continuedLine, lineOn, step, sent-append}
 use Rattle.history.proofs.Counts.{Counts, concatenated-snoc, ended-counts, finished-counts, grown-counts, single-counts, commanded-counts}
 use Rattle.history.proofs.Counts.{commandLine as lineOfCommand}
 use Rattle.history.proofs.Holds.{Holds, holds-nothing, appended-holds, filled-length, sent-shown}
-use Rattle.history.proofs.Enables.{macBit, taken-is-read}
 
 -- two choices by one test
 pub if-both : {A B : Type 0} (P : A → B → Type 0) (t : Bool) (a b : A) (c d : B) → (t ≡ true → P a c) → (t ≡ false → P b d) → P (if t then a else b) (if t then c else d)

@@ -7,8 +7,8 @@ use mathlib.Core.Path.{_≡_, refl, sym, ap, _∙_, subst}
 use native.Mathlib.Nat.{zero-add}
 use native.Mathlib.Omega.{arith}
 use lib.Dec.{ltb}
-use lib.ListN.{length, take, drop, replicate, length-append, length-drop, length-take, length-replicate, take-append-drop}
-use lib.Seq.{take-at, take-all, take-append-le, take-length, length-take-le}
+use lib.ListN.{length, take, drop, replicate, length-append, length-replicate}
+use lib.Seq.{take-at, take-append-le, length-take-le}
 use borrow.Author.Tests.{ltb-true, ltb-false, lt-ltb, le-ltb}
 use Rattle.prelude.specs.Choice.{if_then_else_}
 use Rattle.prelude.specs.Parts.{Slice, put}
@@ -18,7 +18,6 @@ use Rattle.packet.specs.Store.{maxPacket, minSent, appended, filled, sentLength
 use Rattle.packet.proofs.Properties.{leaves-the-rest}
 use Rattle.history.specs.Runs.{concatenated, comparedFrom, withFill}
 use Rattle.history.specs.Calls.{shownBytes}
-use Rattle.history.proofs.Counts.{concatenated-snoc}
 
 -- what is compared of an open packet is all of it, as long as it is within the largest
 pub compared-all : (before : ℕ) (pieces : List (List ℕ)) → before + length (concatenated pieces) ≤ maxPacket → comparedFrom before pieces ≡ concatenated pieces

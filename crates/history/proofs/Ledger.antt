@@ -7,9 +7,9 @@ use mathlib.Core.Path.{_≡_, refl, sym, ap, _∙_}
 use native.Mathlib.Omega.{arith}
 use lib.ListN.{length}
 use Rattle.prelude.specs.Choice.{if_then_else_}
-use Rattle.history.specs.Lines.{Fate, superseded, sent, aborted, Line, row, opened, Column, isLine, inLine}
-use Rattle.history.specs.Reading.{Ending, fateOf, Role, fragment, ends, passes}
-use Rattle.history.specs.Runs.{End, ended, unended, Run, run, atLast, runFrom, runAt, runs, isInRun, Single, single, singleAt, singlesAfter, lineOf, countRuns, countSingles, countIn, unendedPieces, openPieces, ifSent, packetsSent}
+use Rattle.history.specs.Lines.{Fate, superseded, sent, aborted, Line, row, opened, Column}
+use Rattle.history.specs.Reading.{fateOf, Role, fragment, ends, passes}
+use Rattle.history.specs.Runs.{End, ended, unended, Run, run, atLast, runFrom, runAt, runs, isInRun, Single, single, singleAt, singlesAfter, countRuns, countSingles, countIn, unendedPieces, openPieces, ifSent, packetsSent}
 
 pub record Ledger : Type 0 where
   pub held : List (List ℕ)

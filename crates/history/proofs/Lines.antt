@@ -3,12 +3,12 @@
 use Prim.Native.Nat.{ℕ, _+_, _<_}
 use mathlib.Core.Bool.{Bool, true, false}
 use mathlib.Core.List.{List, [], _∷_, _++_}
-use mathlib.Core.Path.{_≡_, refl, sym, ap, _∙_}
+use mathlib.Core.Path.{_≡_, refl}
 use native.Mathlib.Omega.{arith}
 use lib.ListN.{length, length-append}
 use Rattle.prelude.specs.Choice.{if_then_else_}
 use Rattle.state.specs.Account.{rows}
-use Rattle.history.specs.Lines.{Fate, sent, rowOf, Line, row, opened, lineNumber, Column, packets, fragments, bytes, isLine, inLine}
+use Rattle.history.specs.Lines.{Fate, sent, Line, row, opened, lineNumber, Column, packets, fragments, bytes, isLine, inLine}
 use Rattle.history.specs.Reading.{Role}
 use Rattle.history.specs.Runs.{concatenated, End, ended, unended, Run, run, runs, Single, singlesAfter, lineOf, ofRun, ofSingle, countRuns, countSingles, countIn, openPieces, withFill, ifSent, packetsSent}
 use Rattle.history.proofs.Counts.{row-in-grid, in-other-line, in-same-line}

@@ -2,17 +2,17 @@
 -- Assumes nothing.
 use Prim.Native.Nat.{ℕ, suc, _+_}
 use mathlib.Core.Bool.{Bool, true, false}
-use mathlib.Core.List.{List, [], _∷_, _++_, append-assoc, append-nil}
+use mathlib.Core.List.{List, [], _∷_, _++_}
 use mathlib.Core.Path.{_≡_, refl, sym, ap, _∙_}
 use native.Mathlib.Omega.{arith}
 use lib.ListN.{length, length-append}
 use Rattle.prelude.specs.Choice.{if_then_else_}
-use Rattle.history.specs.Lines.{Fate, sent, superseded, flushed, broken, over, short, linkdown, aborted, badlength, Line, row, opened, taken, refused, lines, Column, fragments, isLine, inLine}
+use Rattle.history.specs.Lines.{sent, superseded, flushed, broken, over, short, linkdown, aborted, badlength, Line, row, opened, taken, refused, lines, fragments, isLine, inLine}
 use Rattle.history.specs.Reading.{Entry, Role, fragment, ends, passes, roles, rolesAfter}
-use Rattle.history.specs.Runs.{Run, runFrom, runs, isInRun, singlesAfter, lineOf, ofRun, ofSingle, countRuns, countSingles, countIn}
+use Rattle.history.specs.Runs.{runFrom, runs, isInRun, singlesAfter, lineOf, ofRun, ofSingle, countRuns, countSingles, countIn}
 use Rattle.history.proofs.Back.{grows, heldBack, line-back, held-in-run}
 use Rattle.history.proofs.Ledger.{isHeld}
-use Rattle.history.specs.Partition.{lineAt, linesAfter, placesIn, sumOver, InOneLine, Partition}
+use Rattle.history.specs.Partition.{linesAfter, placesIn, sumOver, Partition}
 
 in-line-add : (line : Line) (m n : ℕ) (other : Line) → inLine line (m + n) other ≡ inLine line m other + inLine line n other
 unfolding inLine if_then_else_

@@ -2,35 +2,34 @@
 -- Assumes nothing.
 use Prim.Native.Nat.{ℕ, _+_, _<_, _≤_, min}
 use mathlib.Core.Bool.{Bool, true, false, true≢false}
-use mathlib.Core.List.{List, [], _∷_, _++_, append-nil}
+use mathlib.Core.List.{List, [], _++_, append-nil}
 use mathlib.Core.Path.{_≡_, refl, sym, ap, _∙_, subst}
 use native.Mathlib.Nat.{not-le-of-lt}
 use native.Mathlib.Omega.{arith}
 use lib.Arith.{lt-of-le-ne}
-use lib.Dec.{ltb, leb}
+use lib.Dec.{ltb}
 use lib.ListN.{length, getD, take, drop, length-take, length-append, take-append-drop, List·getD-append}
 use lib.Seq.{length-front}
 use borrow.Author.Tests.{le-ltb, ltb-true, ltb-false, leb-true, le-leb}
 use Rattle.prelude.specs.Choice.{if_then_else_, _and_, _or_}
-use Rattle.prelude.proofs.Tests.{if-true, if-false, if-cases, if-first, if-second}
+use Rattle.prelude.proofs.Tests.{if-true, if-false, if-first, if-second}
 use Rattle.packet.specs.Store.{maxPacket}
 use Rattle.settings.specs.Record as settings-record
 use Rattle.settings.specs.Enable as settings-enable
 use Rattle.settings.proofs.Properties.{every-enable}
-use Rattle.state.specs.declared.Account.{Account}
 use Rattle.state.specs.Account.{limit}
 use Rattle.state.specs.Sound.{sound}
-use Rattle.translator.specs.declared.Outcome.{Outcome}
-use Rattle.translator.specs.declared.Outcome.the-variants as outcome
+use Rattle.outcome.specs.declared.Outcome.{Outcome}
+use Rattle.outcome.specs.declared.Outcome.the-variants as outcome
 use Rattle.translator.specs.declared.Transacted.{Transacted}
 use Rattle.translator.specs.Command.{hasBothFlags}
-use Rattle.translator.specs.Outcome.{numberOf}
+use Rattle.outcome.specs.Outcome.{numberOf}
 use Rattle.translator.specs.Transact as transact
 use Rattle.translator.proofs.Laws.{by-command, by-answer}
 use Rattle.translator.proofs.Properties.{every-transaction}
 use Rattle.history.specs.Lines.{opened, refused}
 use Rattle.history.specs.Answers.{answerLines}
-use Rattle.history.specs.Reading.{transaction, isTaken, bringsMac, Role, ends, passes, flush, roleOf}
+use Rattle.history.specs.Reading.{transaction, isTaken, bringsMac, Role, roleOf}
 use Rattle.history.specs.Runs.{comparedFrom, packetsSent}
 use Rattle.history.specs.Calls.{Kept, packetOf, leftBy, step, hasRoom}
 use Rattle.history.specs.Calls as calls

@@ -4,7 +4,7 @@ use mathlib.Core.Bool.{Bool}
 use mathlib.Core.List.{List, [], _∷_, _++_}
 use mathlib.Core.Path.{_≡_}
 use lib.ListN.{length, getD, take}
-use Rattle.translator.specs.Outcome.{numberOf}
+use Rattle.outcome.specs.Outcome.{numberOf}
 use Rattle.translator.specs.Transact.{transacted}
 use Rattle.history.specs.Lines.{sent, over, short, linkdown, aborted, badlength, Line, row, opened, taken, refused}
 use Rattle.history.specs.Reading.{Entry, transaction, roles}

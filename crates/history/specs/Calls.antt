@@ -7,12 +7,12 @@ use lib.ListN.{take, drop}
 use Rattle.prelude.specs.Choice.{if_then_else_, _and_}
 use Rattle.packet.specs.Store.{shown}
 use Rattle.state.specs.declared.Account.{Account}
-use Rattle.translator.specs.declared.Outcome.{Outcome}
-use Rattle.translator.specs.declared.Outcome.the-variants as outcome
+use Rattle.outcome.specs.declared.Outcome.{Outcome}
+use Rattle.outcome.specs.declared.Outcome.the-variants as outcome
 use Rattle.translator.specs.Transact.{Done, transacted}
 use Rattle.history.specs.Reading.{Entry, transaction}
 
--- a transaction that is lent so many bytes of the store and of the settings, or another public operation: those are handed values, or buffers that they only read, so that they can change nothing that is kept. Those that make something fresh stand only at the start
+-- a transaction that is lent so many bytes of the store and of the settings, or an operation that is handed values, buffers that it only reads, or a buffer for its output that is none of those kept, so that it can change nothing that is kept. Those that make something fresh stand only at the start. A replay of a journal's records is no call of these: it leaves what a transaction for each of them leaves (`EveryReplay` of journal), but shows no packet
 pub data Call : Type 0 where
   transact : (storeLent settingsLent command : ℕ) (data-bytes : List ℕ) (link-up : Bool) → Call
   reads : Call

@@ -11,7 +11,7 @@ use Rattle.state.specs.Account.{made}
 use Rattle.state.specs.Sound.{sound}
 use Rattle.settings.specs.Record as settings-record
 use Rattle.settings.specs.Enable.{freshened}
-use Rattle.translator.specs.Outcome.{numberOf}
+use Rattle.outcome.specs.Outcome.{numberOf}
 use Rattle.translator.specs.Transact.{transacted}
 use Rattle.history.specs.Lines.{Fate, sent, cellAt, row, opened, taken, refused, Column, packets, fragments, bytes}
 use Rattle.history.specs.Reading.{Entry, isMacKept, roles}

@@ -1,6 +1,6 @@
 -- The history's own reading of a transaction, by itself and by what stands before it in the list (document 01, A transaction, Answer numbers, First and Last, Receive settings and The account). Nothing of the rules is used: their constants stand here again on purpose.
 use Prim.Native.Nat.{ℕ}
-use mathlib.Core.Bool.{Bool, true, false, not}
+use mathlib.Core.Bool.{Bool, false, not}
 use mathlib.Core.List.{List, [], _∷_}
 use lib.Dec.{eqb, leb}
 use lib.ListN.{length, getD}

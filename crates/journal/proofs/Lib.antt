@@ -1,12 +1,6 @@
-pub mod Appending
-pub mod Decimal
 pub mod Example
-pub mod Fates
-pub mod Feeding
 pub mod Headers
 pub mod History
 pub mod Pieces
-pub mod Records
-pub mod Resuming
 pub mod RoundTrip
 pub mod Whole

@@ -13,26 +13,27 @@ use Rattle.prelude.specs.Choice.{if_then_else_}
 use Rattle.prelude.proofs.Tests.{if-true, if-false}
 use Rattle.state.specs.declared.Account.{Account}
 use Rattle.state.specs.Account.{freshAccount}
-use Rattle.journal.specs.Format.{Transaction, Records, headerSize, isMarked, headerIn, recordsIn}
-use Rattle.journal.specs.Feeding.{After, after, Ran, ran, run, fedTo, readingAt, stageAfter, afterRecords, recordsFed, byHeader, byStage, fed, concluded}
+use Rattle.record.specs.Records.{Transaction, Records, recordsIn}
+use Rattle.journal.specs.Format.{headerSize, isMarked, headerIn}
+use Rattle.translator.specs.Replay.{Carried, carried, replayed, stoppedAfter, recordsReplayed}
+use Rattle.journal.specs.Feeding.{After, after, fedTo, readingAt, stageAfter, afterReplay, recordsFed, byHeader, byStage, fed, concluded}
 use Rattle.journal.specs.Journal.{emptyStore, freshRecord, output}
-use Rattle.journal.specs.Printout.{shown}
+use Rattle.printout.specs.Printout.{shown}
 use Rattle.journal.specs.Properties.{Progress, progress, fedOn, fedPieces, joined, begun, InPieces}
 use Rattle.journal.specs.declared.format.Header.{Header}
 use Rattle.journal.specs.declared.format.Header.the-variants as header
 use Rattle.journal.specs.declared.reading.Reading.{Reading}
 use Rattle.journal.specs.declared.reading.Stage.{Stage}
 use Rattle.journal.specs.declared.reading.Stage.the-variants as stage
-use Rattle.journal.proofs.Feeding.{fedBy}
 use Rattle.journal.proofs.Headers.{Good, bad-long}
 use Rattle.journal.proofs.Headers.{good as good-header}
-use Rattle.journal.proofs.Resuming.{andThen, records-append}
+use Rattle.record.proofs.Resuming.{andThen, records-append}
 use Rattle.journal.proofs.Whole.{fed-within, whole-concluded}
 
-run-append : (s : Ran) (first second : List Transaction) → run s (first ++ second) ≡ run (run s first) second
-unfolding run
-run-append s [] second = refl
-run-append s (t ∷ rest) second = run-append _ rest second
+replayed-append : (s : Carried) (first second : List Transaction) → replayed s (first ++ second) ≡ replayed (replayed s first) second
+unfolding replayed
+replayed-append s [] second = refl
+replayed-append s (t ∷ rest) second = replayed-append _ rest second
 
 -- a header that is there stays what it is
 header-append : (bytes more : List ℕ) → 6 ≤ length bytes → headerIn (bytes ++ more) ≡ headerIn bytes
@@ -52,8 +53,12 @@ module _ (a : Account) (store settings : List ℕ) (before : ℕ) (bytes more : 
   abbrev here : Records
   here = recordsIn (drop before bytes)
 
-  abbrev reached : Ran
-  reached = run (ran a store settings) (here .transactions)
+  -- what records read come to
+  abbrev fedBy : Records → After
+  fedBy records = afterReplay (stoppedAfter before records (replayed (carried a store settings) (records .transactions)))
+
+  abbrev reached : Carried
+  reached = replayed (carried a store settings) (here .transactions)
 
   -- onward, by whether a bad link byte was met
   abbrev onwardFrom : Bool → List ℕ → After
@@ -65,26 +70,26 @@ module _ (a : Account) (store settings : List ℕ) (before : ℕ) (bytes more : 
   left = drop-drop (0 + here .used) before bytes ∙ ap (λ (n : ℕ). drop (before + n) bytes) (zero-add (here .used))
 
   met : (b : Bool) → here .badLink ≡ b
-      → fedBy a store settings before (andThen here (recordsIn (drop (before + here .used) bytes ++ more))) ≡ onwardFrom b (drop (before + here .used) bytes ++ more)
-  unfolding byStage recordsFed if_then_else_
+      → fedBy (andThen here (recordsIn (drop (before + here .used) bytes ++ more))) ≡ onwardFrom b (drop (before + here .used) bytes ++ more)
+  unfolding byStage recordsReplayed if_then_else_
   met true e =
-      ap (fedBy a store settings before) (if-true _ _ _ e)
+      ap (fedBy) (if-true _ _ _ e)
       ∙ (ap (λ (b : Bool). after (fedTo (readingAt (stageAfter b) (reached .account)) (before + here .used)) (reached .store) (reached .settings)) e
       ∙ ap (λ (n : ℕ). after (fedTo (readingAt stage.Bad (reached .account)) n) (reached .store) (reached .settings)) (sym (add-zero (before + here .used))))
   met false e =
       let rest : Records = recordsIn (drop (before + here .used) bytes ++ more) in
       let both : Records = record { transactions = here .transactions ++ rest .transactions; used = here .used + rest .used; badLink = rest .badLink } in
-      let s : Ran = run reached (rest .transactions) in
+      let s : Carried = replayed reached (rest .transactions) in
       let place : before + (here .used + rest .used) ≡ before + here .used + (0 + rest .used) = omega arith in
-      ap (fedBy a store settings before) (if-false _ _ _ e)
-      ∙ (ap (afterRecords before both) (run-append (ran a store settings) (here .transactions) (rest .transactions))
+      ap (fedBy) (if-false _ _ _ e)
+      ∙ (ap (λ (s : Carried). afterReplay (stoppedAfter before both s)) (replayed-append (carried a store settings) (here .transactions) (rest .transactions))
       ∙ ap (λ (n : ℕ). after (fedTo (readingAt (stageAfter (rest .badLink)) (s .account)) n) (s .store) (s .settings)) place)
 
   records-onward : recordsFed a store settings before (drop before (bytes ++ more)) ≡ onward (recordsFed a store settings before (drop before bytes)) bytes more
-  unfolding recordsFed
+  unfolding recordsReplayed
   records-onward =
-      ap (λ (l : List ℕ). fedBy a store settings before (recordsIn l)) (drop-append-le before bytes more h)
-      ∙ (ap (fedBy a store settings before)
+      ap (λ (l : List ℕ). fedBy (recordsIn l)) (drop-append-le before bytes more h)
+      ∙ (ap (fedBy)
       (records-append 0 (drop before bytes) more zero-le ∙ ap (λ (l : List ℕ). andThen here (recordsIn (l ++ more))) left)
       ∙ met (here .badLink) refl)
 

@@ -13,13 +13,14 @@ use borrow.Author.Tests.{ltb-false, eqb-true, le-ltb, eq-eqb}
 use Rattle.prelude.specs.Choice.{if_then_else_}
 use Rattle.prelude.proofs.Lists.{by-elements}
 use Rattle.prelude.proofs.Tests.{if-true, if-false, if-cases, if-first, if-second}
-use Rattle.journal.specs.Format.{Transaction, transaction, headerOf, headerSize, linkByte, recordsOf, journalOf, isMarked, headerIn, Records, one, recordsAfter, recordsIn, Journal, bad, good, withHeader, parsed}
+use Rattle.record.specs.Records.{Transaction, transaction, linkByte, recordsOf, Records, one, recordsAfter, recordsIn}
+use Rattle.journal.specs.Format.{headerOf, headerSize, journalOf, isMarked, headerIn, Journal, bad, good, withHeader, parsed}
 use Rattle.journal.specs.Properties.{RoundTrip}
 use Rattle.journal.specs.declared.format.Header.{Header}
 use Rattle.journal.specs.declared.format.Header.the-variants as header
 use Rattle.journal.proofs.Headers.{Good}
 use Rattle.journal.proofs.Headers.{good as good-header}
-use Rattle.journal.proofs.Records.{after-skip}
+use Rattle.record.proofs.Records.{after-skip}
 
 abbrev allOf : List Transaction → Records
 allOf transactions = record { transactions = transactions; used = length (recordsOf transactions); badLink = false }

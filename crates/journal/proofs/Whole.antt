@@ -1,27 +1,28 @@
 -- A whole journal that is fed at once and concluded gives its output.
 -- Assumes nothing.
-use Prim.Native.Nat.{ℕ, _+_, _-_, _*_, _≤_, _<_}
+use Prim.Native.Nat.{ℕ, _+_, _-_, _≤_, _<_}
 use mathlib.Core.Bool.{Bool, true, false}
 use mathlib.Core.List.{List, [], _∷_}
 use mathlib.Core.Path.{_≡_, refl, _∙_}
 use native.Mathlib.Omega.{arith}
 use lib.Dec.{eqb}
 use lib.ListN.{length, drop, replicate, length-drop}
-use borrow.Author.Tests.{le-leb, eqb-true, eqb-false, eq-eqb, ne-eqb}
+use borrow.Author.Tests.{eqb-true, eqb-false, eq-eqb, ne-eqb}
 use Rattle.prelude.specs.Choice.{if_then_else_}
 use Rattle.prelude.proofs.Tests.{if-true, if-false, if-cases}
 use Rattle.settings.specs.Enable.{freshened}
 use Rattle.settings.specs.Record.{withSettings}
 use Rattle.state.specs.declared.Account.{Account}
-use Rattle.state.specs.Account.{freshAccount, allFragments}
-use Rattle.state.specs.Sound as state-sound
+use Rattle.state.specs.Account.{freshAccount}
 use Rattle.state.specs.Sound.{sound}
 use Rattle.translator.specs.Properties.{Formed}
 use Rattle.translator.proofs.Properties.{every-transaction}
-use Rattle.journal.specs.Format.{Transaction, Records, headerSize, headerIn, recordsIn, bad, good, withHeader, parsed}
-use Rattle.journal.specs.Feeding.{After, Ran, ran, run, recordsFed, byHeader, byStage, fed, readingAt, stageAfter, started, concludedAt, concluded}
+use Rattle.record.specs.Records.{Transaction, Records, recordsIn}
+use Rattle.journal.specs.Format.{headerSize, headerIn, bad, good, withHeader, parsed, badJournal}
+use Rattle.translator.specs.Replay.{Carried, carried, replayed, recordsReplayed}
+use Rattle.journal.specs.Feeding.{After, recordsFed, byHeader, byStage, fed, readingAt, stageAfter, started, concludedAt, concluded}
 use Rattle.journal.specs.Journal.{emptyStore, freshRecord, accountOf, outputOf, output}
-use Rattle.journal.specs.Printout.{Written, badJournal, printout, shown, printed}
+use Rattle.printout.specs.Printout.{Written, printout, shown, printed}
 use Rattle.journal.specs.declared.format.Header.{Header}
 use Rattle.journal.specs.declared.format.Header.the-variants as header
 use Rattle.journal.specs.declared.reading.Reading.{Reading}
@@ -30,15 +31,15 @@ use Rattle.journal.specs.declared.reading.Stage.the-variants as stage
 use Rattle.state.proofs.FreshAccounts.{fresh-sound}
 use Rattle.journal.proofs.Headers.{Good}
 use Rattle.journal.proofs.Headers.{good as good-header}
-use Rattle.journal.proofs.Records.{Within, used-within}
+use Rattle.record.proofs.Records.{Within, used-within}
 
 -- a sound account stays sound through any transactions
-pub run-sound : (s : Ran) (transactions : List Transaction) → Formed (s .account) → sound (s .account) ≡ true → sound (run s transactions .account) ≡ true
-unfolding run
-run-sound s [] formed h = h
-run-sound s (t ∷ rest) formed h =
+pub replayed-sound : (s : Carried) (transactions : List Transaction) → Formed (s .account) → sound (s .account) ≡ true → sound (replayed s transactions .account) ≡ true
+unfolding replayed
+replayed-sound s [] formed h = h
+replayed-sound s (t ∷ rest) formed h =
     let after : _ = every-transaction (s .account) (s .store) (s .settings) (t .command) (t .bytes) (t .linkUp) formed in
-    run-sound _ rest (after .account-stays-formed) (after .account-stays-sound h)
+    replayed-sound _ rest (after .account-stays-formed) (after .account-stays-sound h)
 
 -- not all of it is used: bad, whatever was read
 pub concluded-left : (reading : Reading) (unused : ℕ) (out : List ℕ) → (unused ≡ 0 → ⊥) → concluded reading unused out ≡ shown badJournal out
@@ -61,7 +62,7 @@ module _ (maximum : ℕ) (journal : List ℕ) (out : List ℕ) (g : Good journal
   account = accountOf maximum (records .transactions)
 
   account-sound : sound account ≡ true
-  account-sound = run-sound (ran (freshAccount maximum) emptyStore freshRecord) (records .transactions) refl (fresh-sound maximum (g .least) (g .most))
+  account-sound = replayed-sound (carried (freshAccount maximum) emptyStore freshRecord) (records .transactions) refl (fresh-sound maximum (g .least) (g .most))
 
   all-or-left : (t : Bool) → eqb (records .used) (length (drop headerSize journal)) ≡ t
       → concluded (readingAt (stageAfter (records .badLink)) account) (length journal - (headerSize + records .used)) out
@@ -87,7 +88,7 @@ module _ (maximum : ℕ) (journal : List ℕ) (out : List ℕ) (g : Good journal
   records-concluded :
       let f : After = recordsFed (freshAccount maximum) emptyStore freshRecord headerSize (drop headerSize journal) in
       concluded (f .result .reading) (length journal - f .result .used) out ≡ shown (outputOf (withHeader (header.Maximum maximum) (drop headerSize journal))) out
-  unfolding recordsFed
+  unfolding recordsReplayed
   records-concluded = all-or-left (eqb (records .used) (length (drop headerSize journal))) refl
 
 concluded-unread : (s : Stage) (a : Account) (unused : ℕ) (out : List ℕ) → concludedAt s a out ≡ shown badJournal out → concluded (readingAt s a) unused out ≡ shown badJournal out
@@ -114,7 +115,7 @@ whole-concluded journal out = by-header (headerIn journal) refl
 -- what is used of a part is there
 records-fed-within : (a : Account) (store settings : List ℕ) (before : ℕ) (part : List ℕ) → before ≤ length part
     → recordsFed a store settings before (drop before part) .result .used ≤ length part
-unfolding recordsFed
+unfolding recordsReplayed
 records-fed-within a store settings before part h =
     let w : Within 0 (drop before part) (recordsIn (drop before part)) = used-within 0 (drop before part) (omega arith) in
     omega (arith, length-drop before part)

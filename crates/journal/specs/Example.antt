@@ -4,8 +4,9 @@ use mathlib.Core.Bool.{true}
 use mathlib.Core.List.{List, [], _∷_}
 use mathlib.Core.Path.{_≡_}
 use lib.ListN.{replicate}
-use Rattle.journal.specs.Ascii.{ascii}
-use Rattle.journal.specs.Format.{Transaction, transaction, journalOf}
+use Rattle.prelude.specs.Ascii.{ascii}
+use Rattle.record.specs.Records.{Transaction, transaction}
+use Rattle.journal.specs.Format.{journalOf}
 use Rattle.journal.specs.Journal.{output}
 
 -- a command with so many bytes of data, all zero, while the link is up

@@ -1,37 +1,21 @@
--- A journal that is fed in parts: what one call takes, and what parts one after another come to (document 01, Journal and printout).
-use Prim.Native.Nat.{ℕ, _+_}
+-- A journal that is fed in pieces: what one call takes of a piece, and the outcome in the end (document 01, Journal and printout).
+use Prim.Native.Nat.{ℕ}
 use mathlib.Core.Bool.{Bool}
-use mathlib.Core.List.{List, [], _∷_}
+use mathlib.Core.List.{List}
 use lib.Dec.{eqb}
 use lib.ListN.{drop}
 use Rattle.prelude.specs.Choice.{if_then_else_}
 use Rattle.state.specs.declared.Account.{Account}
 use Rattle.state.specs.Account.{maxMaximum, freshAccount}
-use Rattle.translator.specs.Transact.{Done, transacted}
-use Rattle.journal.specs.Format.{Transaction, Records, headerSize, headerIn, recordsIn}
-use Rattle.journal.specs.Printout.{Written, badJournal, shown, printed}
+use Rattle.translator.specs.Replay.{Replay, recordsReplayed}
+use Rattle.journal.specs.Format.{headerSize, headerIn, badJournal}
+use Rattle.printout.specs.Printout.{Written, shown, printed}
 use Rattle.journal.specs.declared.format.Header.{Header}
 use Rattle.journal.specs.declared.format.Header.the-variants as header
 use Rattle.journal.specs.declared.reading.Fed.{Fed}
 use Rattle.journal.specs.declared.reading.Reading.{Reading}
 use Rattle.journal.specs.declared.reading.Stage.{Stage}
 use Rattle.journal.specs.declared.reading.Stage.the-variants as stage
-
--- account, store and settings after transactions
-pub record Ran : Type 0 where
-  pub account : Account
-  pub store : List ℕ
-  pub settings : List ℕ
-
-abbrev pub ran : Account → List ℕ → List ℕ → Ran
-ran account store settings = record { account = account; store = store; settings = settings }
-
--- transactions one after another, each by the rules
-unfoldable pub run : Ran → List Transaction → Ran
-run s [] = s
-run s (t ∷ rest) =
-    let d : Done = transacted (s .account) (s .store) (s .settings) (t .command) (t .bytes) (t .linkUp) in
-    run (ran (d .result .account) (d .store) (d .settings)) rest
 
 -- a reading that went on, and what is left in the store and the settings
 pub record After : Type 0 where
@@ -52,14 +36,14 @@ fedTo reading used = record { reading = reading; used = used }
 abbrev pub stageAfter : Bool → Stage
 stageAfter badLink = if badLink then stage.Bad else stage.Records
 
--- so many bytes were used, and then the whole records, each as one transaction
-abbrev pub afterRecords : ℕ → Records → Ran → After
-afterRecords before records s =
-    after (fedTo (readingAt (stageAfter (records .badLink)) (s .account)) (before + records .used)) (s .store) (s .settings)
+-- a reading once records were replayed
+abbrev pub afterReplay : Replay → After
+afterReplay r =
+    after (fedTo (readingAt (stageAfter (r .result .«bad_link»)) (r .result .account)) (r .result .at)) (r .store) (r .settings)
 
-unfoldable pub recordsFed : Account → List ℕ → List ℕ → ℕ → List ℕ → After
-recordsFed account store settings before bytes =
-    afterRecords before (recordsIn bytes) (run (ran account store settings) (recordsIn bytes .transactions))
+-- the whole records of some bytes, each as one transaction
+abbrev pub recordsFed : Account → List ℕ → List ℕ → ℕ → List ℕ → After
+recordsFed account store settings before bytes = afterReplay (recordsReplayed account store settings before bytes)
 
 unfoldable pub byHeader : Header → Account → List ℕ → List ℕ → List ℕ → After
 byHeader header.Cut account store settings part = after (fedTo (readingAt stage.Header account) 0) store settings

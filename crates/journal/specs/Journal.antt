@@ -6,9 +6,10 @@ use Rattle.packet.specs.Store.{maxPacket}
 use Rattle.settings.specs.Record.{freshSettings, withSettings}
 use Rattle.state.specs.declared.Account.{Account}
 use Rattle.state.specs.Account.{freshAccount}
-use Rattle.journal.specs.Format.{Journal, bad, good, Transaction, parsed}
-use Rattle.journal.specs.Feeding.{ran, run}
-use Rattle.journal.specs.Printout.{badJournal, printout}
+use Rattle.record.specs.Records.{Transaction}
+use Rattle.journal.specs.Format.{Journal, bad, good, parsed, badJournal}
+use Rattle.translator.specs.Replay.{carried, replayed}
+use Rattle.printout.specs.Printout.{printout}
 
 -- an empty store and a fresh record of settings
 abbrev pub emptyStore : List ℕ
@@ -19,7 +20,7 @@ freshRecord = withSettings freshSettings []
 
 -- the account of a journal's transactions
 abbrev pub accountOf : ℕ → List Transaction → Account
-accountOf maximum transactions = run (ran (freshAccount maximum) emptyStore freshRecord) transactions .account
+accountOf maximum transactions = replayed (carried (freshAccount maximum) emptyStore freshRecord) transactions .account
 
 -- what is printed of a journal: its account, or that it is bad
 abbrev pub outputOf : Journal → List ℕ

@@ -1,9 +1,6 @@
-pub mod Appending
-pub mod Ascii
 pub mod Example
 pub mod Feeding
 pub mod Format
 pub mod History
 pub mod Journal
-pub mod Printout
 pub mod Properties

@@ -4,10 +4,11 @@ use mathlib.Core.List.{List, [], _∷_, _++_}
 use mathlib.Core.Path.{_≡_}
 use lib.ListN.{length, drop}
 use Rattle.state.specs.Account.{maxMaximum}
-use Rattle.journal.specs.Format.{Transaction, good, journalOf, parsed}
+use Rattle.record.specs.Records.{Transaction}
+use Rattle.journal.specs.Format.{good, journalOf, parsed}
 use Rattle.journal.specs.Feeding.{After, fed, started, concluded}
 use Rattle.journal.specs.Journal.{emptyStore, freshRecord, output}
-use Rattle.journal.specs.Printout.{shown}
+use Rattle.printout.specs.Printout.{shown}
 use Rattle.journal.specs.declared.reading.Reading.{Reading}
 use Rattle.journal.specs.declared.reading.Stage.the-variants as stage
 

@@ -1,8 +1,8 @@
-// The header and the records of a journal.
+// The header of a journal.
 ghost use mathlib.Core.Path.{_≡_};
 ghost use Prim.Native.Nat.{_≤_};
 ghost use lib.ListN.{length};
-ghost use Rattle.journal.specs.Format.{isMarked, headerIn, entryAt};
+ghost use Rattle.journal.specs.Format.{isMarked, headerIn};
 
 // The mark, the version in two bytes, the maximum.
 pub const HEADER_SIZE: usize = 6;
@@ -10,29 +10,12 @@ pub const HEADER_SIZE: usize = 6;
 // "TCO" and version 1.
 const MARK: [u8; 5] = [b'T', b'C', b'O', 1, 0];
 
-// The command, the link and the length, before the data bytes.
-const HEAD_SIZE: usize = 3;
-
 pub enum Header {
     // Fewer bytes than a header has.
     Cut,
     Bad,
     // A good header, with its fragment maximum.
     Maximum(u32),
-}
-
-pub enum Entry {
-    // Fewer bytes than the record has, or none at all.
-    Cut,
-    // A link byte that is neither 0 nor 1.
-    BadLink,
-    // A whole record. Its data bytes lie from `start` up to, not including, `end`.
-    Whole {
-        command: u8,
-        link_up: bool,
-        start: usize,
-        end: usize,
-    },
 }
 
 // What the bytes begin with, taken as a header.
@@ -73,35 +56,4 @@ fn is_marked(bytes: &[u8]) -> bool
         return false;
     }
     bytes[4] == MARK[4]
-}
-
-// What stands at a place of the bytes, taken as a record.
-pub fn record_at(bytes: &[u8], at: usize) -> Entry
-    ensures { λ r. ⌜ r ≡ entryAt (now (bytes .entry)) at ⌝ }
-{
-    if bytes.len() < at {
-        return Entry::Cut;
-    }
-    let left = bytes.len() - at;
-    if left < 2 {
-        return Entry::Cut;
-    }
-    let link = bytes[at + 1];
-    if 1 < link {
-        return Entry::BadLink;
-    }
-    if left < HEAD_SIZE {
-        return Entry::Cut;
-    }
-    let size = bytes[at + 2] as usize;
-    if left - HEAD_SIZE < size {
-        return Entry::Cut;
-    }
-    let start = at + HEAD_SIZE;
-    Entry::Whole {
-        command: bytes[at],
-        link_up: link == 1,
-        start,
-        end: start + size,
-    }
 }

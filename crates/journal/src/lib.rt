@@ -1,17 +1,13 @@
-// Journals of transactions, read in pieces of any size, and the printout of an account.
+// Journals of transactions, read in pieces of any size.
 //
 // A caller starts with `start`, feeds what it has with `feed`, puts the bytes that were not used
 // before the next ones and feeds again, and prints the outcome with `conclude` when no more come.
 mod format;
-mod printout;
 mod reading;
 
-pub use format::Entry;
 pub use format::HEADER_SIZE;
 pub use format::Header;
 pub use format::read_header;
-pub use format::record_at;
-pub use printout::print;
 pub use reading::Fed;
 pub use reading::Reading;
 pub use reading::Stage;

@@ -1,17 +1,13 @@
 // A journal that is read in pieces.
-use crate::format::Entry;
 use crate::format::HEADER_SIZE;
 use crate::format::Header;
 use crate::format::read_header;
-use crate::format::record_at;
-use crate::printout::print;
-use crate::printout::print_bad;
 use state::Account;
 ghost use mathlib.Core.Path.{_≡_};
-ghost use Prim.Native.Nat.{_≤_};
-ghost use lib.ListN.{length, drop};
-ghost use Rattle.journal.specs.Feeding.{after, concluded, fed, fedTo, headerFed, readingAt, recordsFed, started};
-ghost use Rattle.journal.specs.Printout.{written, shown};
+ghost use lib.ListN.{drop};
+ghost use Rattle.journal.specs.Feeding.{after, concluded, fed, fedTo, headerFed, readingAt, recordsFed, stageAfter, started};
+ghost use Rattle.printout.specs.Printout.{written, shown};
+ghost use Rattle.journal.specs.Format.{badJournal};
 ghost use Rattle.journal.specs.Journal.{output};
 
 // What a packet needs at most.
@@ -52,8 +48,9 @@ pub fn start() -> Reading
 }
 
 // Takes the header, if it is still to come, and then each whole record of the part in turn, as one
-// transaction. Stops at a record that is cut, which is fed again with the bytes that follow, and for
-// good at a bad header or link byte.
+// transaction, which counts nothing where it is answered 12, 13 or 14. Stops at a header or record
+// that is cut, which is fed again with the bytes that follow, and for good at a bad header or link
+// byte.
 pub fn feed(reading: Reading, store: &mut [u8], settings: &mut [u8], part: &[u8]) -> Fed
     ensures { λ r. ⌜ after r (now (store .exit)) (now (settings .exit)) ≡ fed reading (now (store .entry)) (now (settings .entry)) (now (part .entry)) ⌝ }
 {
@@ -88,28 +85,21 @@ fn feed_records(
     part: &[u8],
     from: usize,
 ) -> Fed
-    requires { ⌜ from ≤ length (now part) ⌝ }
     ensures { λ r. ⌜ after r (now (store .exit)) (now (settings .exit)) ≡ recordsFed account (now (store .entry)) (now (settings .entry)) from (drop from (now (part .entry))) ⌝ }
 {
-    let mut account = account;
-    let mut at = from;
-    loop {
-        match record_at(part, at) {
-            Entry::Cut => return stopped(Stage::Records, account, at),
-            Entry::BadLink => return stopped(Stage::Bad, account, at),
-            Entry::Whole {
-                command,
-                link_up,
-                start,
-                end,
-            } => {
-                let bytes = &part[start..end];
-                let done = translator::transact(account, store, settings, command, bytes, link_up);
-                account = done.account;
-                at = end;
-            }
-        }
+    let replayed = translator::replay(account, store, settings, part, from);
+    let account = replayed.account;
+    stopped(stage_after(replayed.bad_link), account, replayed.at)
+}
+
+// A bad link byte is bad for good.
+fn stage_after(bad_link: bool) -> Stage
+    ensures { λ r. ⌜ r ≡ stageAfter «bad_link» ⌝ }
+{
+    if bad_link {
+        return Stage::Bad;
     }
+    Stage::Records
 }
 
 fn stopped(stage: Stage, account: Account, used: usize) -> Fed
@@ -122,7 +112,7 @@ fn stopped(stage: Stage, account: Account, used: usize) -> Fed
 }
 
 // Prints the outcome of a journal that was fed to its end, when `unused` bytes are left: its account
-// as print does, or that it is bad.
+// as `printout::print` does, or that it is bad.
 pub fn conclude(reading: Reading, unused: usize, out: &mut [u8]) -> usize
     ensures { λ r. ⌜ written r (now (out .exit)) ≡ concluded reading unused (now (out .entry)) ⌝ }
 {
@@ -133,9 +123,16 @@ pub fn conclude(reading: Reading, unused: usize, out: &mut [u8]) -> usize
     let account = reading.account;
     match stage {
         Stage::Header => print_bad(out),
-        Stage::Records => print(account, out),
+        Stage::Records => printout::print(account, out),
         Stage::Bad => print_bad(out),
     }
+}
+
+// Prints that a journal is bad, as `printout::print` does an account.
+fn print_bad(out: &mut [u8]) -> usize
+    ensures { λ r. ⌜ written r (now (out .exit)) ≡ shown badJournal (now (out .entry)) ⌝ }
+{
+    printout::show(b"bad journal\n", out)
 }
 
 // Prints the outcome of a whole journal at the start of out and answers how many bytes that took, or

@@ -11,8 +11,6 @@ pub const MAX_PACKET: u64 = 1536;
 // A shorter packet is filled up to this before it is sent.
 pub const MIN_SENT: u64 = 64;
 
-const ZEROS: [u8; 64] = [0; 64];
-
 // Writes the fragment behind the first `at` bytes. Changes nothing where that would end past
 // MAX_PACKET or past the store.
 pub fn append(store: &mut [u8], at: u64, fragment: &[u8])
@@ -37,15 +35,14 @@ pub fn append(store: &mut [u8], at: u64, fragment: &[u8])
 pub fn fill(store: &mut [u8], total: u64)
     ensures { λ _. ⌜ now (store .exit) ≡ filled (now (store .entry)) total ⌝ }
 {
-    if MIN_SENT <= total {
-        return;
-    }
     if (store.len() as u64) < MIN_SENT {
         return;
     }
-    let start = total as usize;
-    let zeros = ZEROS;
-    bytes::copy(&zeros[start..], &mut store[start..]);
+    let mut at = total as usize;
+    while at < MIN_SENT as usize {
+        store[at] = 0;
+        at += 1;
+    }
 }
 
 // How many bytes are sent of a packet of `total` bytes.

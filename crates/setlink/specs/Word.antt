@@ -4,7 +4,7 @@ use mathlib.Core.Bool.{Bool, true, false}
 use mathlib.Core.List.{List, [], _∷_}
 use lib.Dec.{eqb}
 use Rattle.prelude.specs.Bits.{bits, isSet}
-use Rattle.prelude.specs.Choice.{if_then_else_, _and_, _or_}
+use Rattle.prelude.specs.Choice.{_and_, _or_}
 use Rattle.setlink.specs.declared.Media.{Media}
 use Rattle.setlink.specs.declared.Media.the-variants.{Copper, Fibre}
 use Rattle.setlink.specs.declared.Pair.{Pair}

@@ -20,9 +20,6 @@ pub struct Decision {
     pub in_force: u32,
 }
 
-// The word in force before the first Set Link.
-pub const FRESH_WORD: u32 = 0;
-
 const COMPLETED: u16 = 0x0000;
 
 const FAILED: u16 = 0x0001;

@@ -7,7 +7,6 @@ use native.Mathlib.Omega.{arith}
 use borrow.Author.Tests.{le-leb, le-ltb, ltb-false}
 use Rattle.prelude.specs.Choice.{if_then_else_}
 use Rattle.prelude.proofs.Tests.{if-false, if-cases}
-use Rattle.state.specs.declared.Account.{Account}
 use Rattle.state.specs.declared.Made.{Made}
 use Rattle.state.specs.Account.{maxMaximum, allFragments, freshAccount, made}
 use Rattle.state.specs.Sound.{countsSound, rowSound, rowsSound, singlesSound, sumHolds, sound}

@@ -1,6 +1,6 @@
 -- Rows of the grid, one after the other.
 -- Assumes nothing.
-use Prim.Native.Nat.{ℕ, zero, suc, _+_, _-_, _≤_, _<_}
+use Prim.Native.Nat.{ℕ, zero, suc, _+_, _*_, _≤_, _<_}
 use mathlib.Core.Bool.{Bool, true, false}
 use mathlib.Core.List.{List}
 use mathlib.Core.Logic.{⊎-elim}
@@ -9,11 +9,11 @@ use native.Mathlib.Nat.{le-of-suc-le-suc, not-suc-le-zero, eq-or-lt-of-le}
 use native.Mathlib.Numerals.{add-one}
 use native.Mathlib.Omega.{arith}
 use lib.Dec.{eqb}
-use borrow.Author.Tests.{ne-eqb}
+use borrow.Author.Tests.{le-leb, ne-eqb}
 use Rattle.prelude.specs.Choice.{if_then_else_, _and_}
 use Rattle.prelude.proofs.Tests.{if-true, if-false, if-first, if-second, eqb-iff}
-use Rattle.state.specs.Account.{rows, packetsIn, fragmentsIn, bytesIn, allFragments}
-use Rattle.state.specs.Sound.{rowSound, rowsSound, sumHolds}
+use Rattle.state.specs.Account.{maxMaximum, rows, badlength, packetsIn, fragmentsIn, bytesIn, allFragments}
+use Rattle.state.specs.Sound.{rowSound, rowsSound}
 
 -- the test of a row in the grid
 abbrev pub rowSoundAt : ℕ → List ℕ → Bool
@@ -60,22 +60,20 @@ all-fragments-grow (suc m) (suc n) grid h =
     (λ lt. omega (arith, all-fragments-grow (suc m) n grid (le-of-suc-le-suc lt)))
     (eq-or-lt-of-le h)
 
--- what is left of the total once the fragments of some rows are taken from it
-module _ (grid : List ℕ) (openFragments taken refused total : ℕ) where
-  pub all-taken : (row left : ℕ) → row ≡ rows → left + allFragments row grid ≡ total → left + allFragments rows grid ≡ total
-  all-taken row left e h = rw e at h
+-- a row without packets and bytes is sound
+pub empty-row-sound : (packets fragments bytes : ℕ) → packets ≡ 0 → bytes ≡ 0 → rowSound packets fragments bytes ≡ true
+unfolding rowSound
+empty-row-sound packets fragments bytes p b =
+    if-true _ _ _ (le-leb packets fragments (omega arith)) ∙ le-leb bytes (maxMaximum * fragments) (omega arith)
 
-  pub sum-fails : (allFragments rows grid + openFragments + taken + refused ≡ total → ⊥) → sumHolds grid openFragments taken refused total ≡ false
-  unfolding sumHolds
-  sum-fails n = ne-eqb _ _ n
+-- what is left of the number wanted once the fragments of some rows are taken from it
+module _ (grid : List ℕ) (wanted row left : ℕ) (taken : left + allFragments row grid ≡ wanted) where
+  pub too-many : row < rows → left < fragmentsIn row grid → eqb (allFragments rows grid) wanted ≡ false
+  too-many l more =
+      ne-eqb (allFragments rows grid) wanted (λ e. omega (arith, e, all-fragments-next row grid, all-fragments-grow (row + 1) rows grid (omega arith)))
 
-  pub sum-fails-at : (row left : ℕ) → row < rows → left + allFragments row grid ≡ total → left < fragmentsIn row grid → sumHolds grid openFragments taken refused total ≡ false
-  sum-fails-at row left l h less =
-      sum-fails (λ e. omega (arith, e, all-fragments-next row grid, all-fragments-grow (row + 1) rows grid (omega arith)))
-
-  pub sum-is-left : (left : ℕ) → left + allFragments rows grid ≡ total → openFragments + taken ≤ left
-      → eqb (left - openFragments - taken) refused ≡ sumHolds grid openFragments taken refused total
-  unfolding sumHolds
-  sum-is-left left h room =
-      eqb-iff (left - openFragments - taken) refused (allFragments rows grid + openFragments + taken + refused) total
-      (λ e. omega arith) (λ e. omega arith)
+  pub last-is-left : row ≡ badlength → eqb (fragmentsIn badlength grid) left ≡ eqb (allFragments rows grid) wanted
+  last-is-left e =
+      let all : allFragments rows grid ≡ allFragments badlength grid + fragmentsIn badlength grid = all-fragments-next badlength grid in
+      let before : left + allFragments badlength grid ≡ wanted = rw e at taken in
+      eqb-iff (fragmentsIn badlength grid) left (allFragments rows grid) wanted (λ e. omega arith) (λ e. omega arith)

@@ -1,3 +1,4 @@
 pub mod FreshAccounts
 pub mod Grid
+pub mod Rows
 pub mod Sound

@@ -1,18 +1,19 @@
 -- What soundness of an account tells, and what it takes.
 -- Assumes nothing.
-use Prim.Native.Nat.{ℕ, _+_, _*_, _≤_, _<_}
+use Prim.Native.Nat.{ℕ, _+_, _-_, _*_, _≤_, _<_}
 use mathlib.Core.Bool.{Bool, true, false}
 use mathlib.Core.List.{List}
-use mathlib.Core.Path.{_≡_, refl, sym, ap, _∙_}
+use mathlib.Core.Path.{_≡_, refl, sym, _∙_}
 use native.Mathlib.Nat.{le-trans, mul-le-mul-left, mul-le-mul-right}
 use native.Mathlib.Omega.{arith}
-use lib.Dec.{leb}
+use lib.Dec.{eqb, leb}
 use borrow.Author.Tests.{leb-true, le-leb, eqb-true, eq-eqb}
-use Rattle.prelude.specs.Choice.{if_then_else_, _and_}
+use Rattle.prelude.specs.Choice.{_and_}
 use Rattle.prelude.proofs.Tests.{if-true, if-first, if-second}
 use Rattle.state.proofs.Grid.{row-sound-at, all-fragments-next, all-fragments-grow}
 use Rattle.state.specs.declared.Account.{Account}
 use Rattle.state.specs.Account.{limit, maxMaximum, rows, packetsIn, fragmentsIn, bytesIn, allFragments}
+use Rattle.state.specs.Grid.{accountOf}
 use Rattle.state.specs.Sound.{countsSound, rowSound, rowsSound, singlesSound, sumHolds, sound}
 
 pub record Counts (maximum total : ℕ) : Type 0 where
@@ -76,29 +77,58 @@ sound-if a s =
     ∙ (if-true _ _ _ (sum-if _ _ _ _ _ (s .sum))
     ∙ (if-true _ _ _ (le-leb _ _ (s .bytes-least)) ∙ le-leb _ _ (s .bytes-most)))))
 
--- the tests in the order of the code, which takes a row's fragments from the total where it tests the row
-in-order : (r s g x : Bool) → ((r and s) and (g and x)) ≡ (r and (g and (s and x)))
-unfolding if_then_else_
-in-order true true true x = refl
-in-order true true false x = refl
-in-order true false true x = refl
-in-order true false false x = refl
-in-order false s g x = refl
+-- two tests that hold together
+same-test : (t u : Bool) → (t ≡ true → u ≡ true) → (u ≡ true → t ≡ true) → t ≡ u
+same-test true u to from = sym (to refl)
+same-test false true to from = from refl
+same-test false false to from = refl
 
-pub sound-in-order : (a : Account) → sound a
-    ≡ (countsSound (a .maximum) (a .total) and ((rowsSound rows (a .grid) and sumHolds (a .grid) (a .«open_fragments») (a .taken) (a .refused) (a .total))
-    and (singlesSound (a .grid) and (leb (a .«open_fragments») (a .«open_bytes») and leb (a .«open_bytes») (a .maximum * a .«open_fragments»)))))
-unfolding sound
-sound-in-order a = ap (λ (t : Bool). countsSound (a .maximum) (a .total) and t) (sym (in-order (rowsSound rows (a .grid)) (sumHolds (a .grid) (a .«open_fragments») (a .taken) (a .refused) (a .total)) (singlesSound (a .grid)) _))
+-- the tests in the order of the code, which takes from the total what stands beside the grid
+abbrev pub inOrder : List ℕ → (maximum openFragments openBytes taken refused total : ℕ) → Bool
+inOrder grid maximum openFragments openBytes taken refused total =
+    countsSound maximum total
+    and (leb openFragments total and leb openFragments openBytes and leb openBytes (maximum * openFragments))
+    and leb taken (total - openFragments) and leb refused (total - openFragments - taken)
+    and rowsSound rows grid and singlesSound grid and eqb (allFragments rows grid) (total - openFragments - taken - refused)
 
--- the most bytes of an open packet fit a number
-pub open-most : (a : Account) → countsSound (a .maximum) (a .total) ≡ true → sumHolds (a .grid) (a .«open_fragments») (a .taken) (a .refused) (a .total) ≡ true
-    → a .maximum * a .«open_fragments» ≤ maxMaximum * limit
-open-most a c s =
-    let counts : Counts (a .maximum) (a .total) = counts-tell _ _ c in
-    let sum : _ = sum-tells _ _ _ _ _ s in
-    let few : a .«open_fragments» ≤ limit = omega (arith, counts .within) in
-    le-trans (mul-le-mul-right (a .«open_fragments») (counts .most)) (mul-le-mul-left maxMaximum few)
+pub sound-in-order : (grid : List ℕ) (maximum openFragments openBytes taken refused total : ℕ)
+    → sound (accountOf grid maximum openFragments openBytes taken refused total) ≡ inOrder grid maximum openFragments openBytes taken refused total
+sound-in-order grid maximum openFragments openBytes taken refused total = same-test _ _ to from
+  where
+    to : sound (accountOf grid maximum openFragments openBytes taken refused total) ≡ true → inOrder grid maximum openFragments openBytes taken refused total ≡ true
+    to h =
+        let s : Sound (accountOf grid maximum openFragments openBytes taken refused total) = sound-tells _ h in
+        if-true _ _ _ (counts-if _ _ (s .counts))
+        ∙ (if-true _ _ _ (if-true _ _ _ (le-leb openFragments total (omega arith)) ∙ (if-true _ _ _ (le-leb _ _ (s .bytes-least)) ∙ le-leb _ _ (s .bytes-most)))
+        ∙ (if-true _ _ _ (le-leb taken (total - openFragments) (omega arith))
+        ∙ (if-true _ _ _ (le-leb refused (total - openFragments - taken) (omega arith))
+        ∙ (if-true _ _ _ (s .rows-are-sound)
+        ∙ (if-true _ _ _ (s .singles-are-sound) ∙ eq-eqb (allFragments rows grid) (total - openFragments - taken - refused) (omega arith))))))
+
+    from : inOrder grid maximum openFragments openBytes taken refused total ≡ true → sound (accountOf grid maximum openFragments openBytes taken refused total) ≡ true
+    from h =
+        let beside : _ = if-second _ _ h in
+        let few : _ = if-first _ _ beside in
+        let takes : _ = if-second _ _ beside in
+        let refuses : _ = if-second _ _ takes in
+        let counted : _ = if-second _ _ refuses in
+        let rest : _ = if-second _ _ counted in
+        let open-fits : openFragments ≤ total = leb-true _ _ (if-first _ _ few) in
+        let taken-fits : taken ≤ total - openFragments = leb-true _ _ (if-first _ _ takes) in
+        let refused-fits : refused ≤ total - openFragments - taken = leb-true _ _ (if-first _ _ refuses) in
+        let left : allFragments rows grid ≡ total - openFragments - taken - refused = eqb-true _ _ (if-second _ _ rest) in
+        sound-if _ (record {
+          counts = counts-tell _ _ (if-first _ _ h);
+          rows-are-sound = if-first _ _ counted;
+          singles-are-sound = if-first _ _ rest;
+          sum = omega arith;
+          bytes-least = leb-true _ _ (if-first _ _ (if-second _ _ few));
+          bytes-most = leb-true _ _ (if-second _ _ (if-second _ _ few));
+        })
+
+-- the most bytes of a packet fit a number
+pub most-bytes : (maximum fragments : ℕ) → maximum ≤ maxMaximum → fragments ≤ limit → maximum * fragments ≤ maxMaximum * limit
+most-bytes maximum fragments m f = le-trans (mul-le-mul-right fragments m) (mul-le-mul-left maxMaximum f)
 
 -- what a sound account bounds, for a row of its grid and beside the grid
 pub record Bounds (a : Account) : Type 0 where

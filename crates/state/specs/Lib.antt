@@ -1,3 +1,4 @@
 pub mod Account
+pub mod Grid
 pub mod Properties
 pub mod Sound

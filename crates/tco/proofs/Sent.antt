@@ -11,7 +11,7 @@ use Rattle.prelude.proofs.Tests.{if-cases}
 use Rattle.packet.specs.Store.{maxPacket, appended, sentLength}
 use Rattle.state.specs.declared.Account.{Account}
 use Rattle.translator.specs.declared.Transacted.{Transacted}
-use Rattle.translator.specs.Outcome.{sentLengthOf}
+use Rattle.outcome.specs.Outcome.{sentLengthOf}
 use Rattle.translator.specs.Transact.{Stored, Done, done, badLength, begun, sequenceOf, lastJudged, joined, bySequence, fragment, enable, unknown, transacted}
 use Rattle.translator.proofs.Laws.{by-command, by-answer}
 

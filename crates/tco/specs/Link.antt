@@ -7,14 +7,14 @@ use Rattle.setlink.specs.declared.Decision.{Decision}
 use Rattle.setlink.specs.declared.Media.the-variants.{Copper, Fibre}
 use Rattle.setlink.specs.Decide.{failed, invalidParameter, decided}
 
--- "Media: copper .. fibre"
+-- how this interface numbers the media
 abbrev pub copper : ℕ
 copper = 0
 
 abbrev pub fibre : ℕ
 fibre = 1
 
--- over any other medium the word is refused, and "A refusal keeps the old word."
+-- over any other number, which names no medium, the call is refused before a check is asked (house), and "A refusal keeps the old word."
 unfoldable pub decidedOver : ℕ → ℕ → Bool → ℕ → Decision
 decidedOver inForce word hostPresent media =
     if eqb media copper then decided inForce word hostPresent Copper else

@@ -12,12 +12,11 @@ use status::Parsed;
 use status::Written;
 ghost use mathlib.Core.Path.{_≡_};
 ghost use Rattle.address.specs.Address.{sourceOf};
-ghost use Rattle.journal.specs.Printout.{written as Printout·written, printed};
+ghost use Rattle.printout.specs.Printout.{written as Printout·written, printed};
 ghost use Rattle.settings.specs.Enable.{answered, freshened};
 ghost use Rattle.state.specs.Account.{made};
 ghost use Rattle.status.specs.Block.{written, parsed};
-ghost use Rattle.translator.specs.Transact.{transacted};
-ghost use Rattle.tco.specs.Reply.{left, leftBy};
+ghost use Rattle.tco.specs.Reply.{InPlace};
 ghost use Rattle.tco.specs.Part.{shownLength, partFrom, macInForce, ipv4InForce};
 ghost use Rattle.tco.specs.Link.{decidedOver};
 
@@ -90,7 +89,7 @@ pub extern "C" fn tco_transact(
     bytes: &[u8],
     link_up: bool,
 ) -> Reply
-    ensures { λ r. ⌜ left (now (account .exit)) r (now (store .exit)) (now (settings .exit)) ≡ leftBy (transacted (now (account .entry)) (now (store .entry)) (now (settings .entry)) command (now (bytes .entry)) «link_up») ⌝ }
+    ensures { λ r. ⌜ InPlace (now (account .entry)) (now (store .entry)) (now (settings .entry)) command (now (bytes .entry)) «link_up» (now (account .exit)) r (now (store .exit)) (now (settings .exit)) ⌝ }
 {
     let replied = transact(*account, store, settings, command, bytes, link_up);
     *account = replied.account;
@@ -106,7 +105,7 @@ fn transact(
     bytes: &[u8],
     link_up: bool,
 ) -> Replied
-    ensures { λ r. ⌜ left (r .account) (r .reply) (now (store .exit)) (now (settings .exit)) ≡ leftBy (transacted account (now (store .entry)) (now (settings .entry)) command (now (bytes .entry)) «link_up») ⌝ }
+    ensures { λ r. ⌜ InPlace account (now (store .entry)) (now (settings .entry)) command (now (bytes .entry)) «link_up» (r .account) (r .reply) (now (store .exit)) (now (settings .exit)) ⌝ }
 {
     let done = translator::transact(account, store, settings, command, bytes, link_up);
     let after = done.account;
@@ -114,13 +113,14 @@ fn transact(
     Replied {
         account: after,
         reply: Reply {
-            answer: translator::number(outcome),
-            sent: translator::sent_length(outcome) as u32,
+            answer: outcome::number(outcome),
+            sent: outcome::sent_length(outcome) as u32,
         },
     }
 }
 
-// How many bytes, from the store's first on, show the first `length` bytes of a packet.
+// How many bytes to show, from the store's first on, where `length` are asked for: that many, or 0
+// where the store has fewer or they are more than a packet can have.
 #[no_mangle]
 pub extern "C" fn tco_shown(store: &[u8], length: usize) -> usize
     ensures { λ r. ⌜ r ≡ shownLength (store .entry) length ⌝ }
@@ -228,5 +228,5 @@ pub extern "C" fn tco_set_link(in_force: u32, word: u32, host_present: bool, med
 pub extern "C" fn tco_print_account(account: Account, out: &mut [u8]) -> usize
     ensures { λ r. ⌜ Printout·written r (now (out .exit)) ≡ printed account (now (out .entry)) ⌝ }
 {
-    journal::print(account, out)
+    printout::print(account, out)
 }

@@ -14,14 +14,14 @@ use Rattle.settings.specs.Enable as settings-enable
 use Rattle.state.specs.declared.Account.{Account}
 use Rattle.state.specs.Account.{rows, superseded, broken, aborted, badlength}
 use Rattle.state.specs.Sound.{sound, isOpen}
-use Rattle.translator.specs.declared.Outcome.{Outcome}
-use Rattle.translator.specs.declared.Outcome.the-variants as outcome
+use Rattle.outcome.specs.declared.Outcome.{Outcome}
+use Rattle.outcome.specs.declared.Outcome.the-variants as outcome
 use Rattle.translator.specs.declared.command.Class.{Class}
 use Rattle.translator.specs.declared.command.Class.the-variants as class
 use Rattle.translator.specs.Command.{commands, classIn}
 use Rattle.translator.specs.Counting.{addTo, recounted, ended, single, grown, finished, commanded}
 use Rattle.translator.specs.Effect.{leftover}
-use Rattle.translator.specs.Outcome.{numberOf}
+use Rattle.outcome.specs.Outcome.{numberOf}
 use Rattle.translator.specs.Transact.{isTaken}
 use Rattle.translator.specs.Properties.{Formed, noRow, ownRow, fragmentCloses, closesIn, closedRow, SameRow, Adds, Packet, noPacket, openPacket, completes, Leaves}
 use Rattle.translator.proofs.Added.{Cells, added-length, added-here, added-elsewhere}

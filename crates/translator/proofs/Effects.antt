@@ -3,7 +3,7 @@
 use Prim.Native.Nat.{ℕ, _+_, _*_, _≤_, _<_}
 use mathlib.Core.Bool.{Bool, true, false}
 use mathlib.Core.List.{List}
-use mathlib.Core.Path.{_≡_, refl, sym, ap, subst, _∙_}
+use mathlib.Core.Path.{_≡_, refl, sym, ap, _∙_}
 use native.Mathlib.Nat.{add-zero}
 use native.Mathlib.Omega.{arith}
 use lib.Dec.{ltb}
@@ -12,32 +12,30 @@ use Rattle.prelude.specs.Choice.{if_then_else_}
 use Rattle.prelude.proofs.Tests.{if-true, if-false, if-cases}
 use Rattle.settings.specs.Enable.{answered}
 use Rattle.state.specs.declared.Account.{Account}
-use Rattle.state.specs.Account.{limit, maxMaximum, rows, superseded}
+use Rattle.state.specs.Account.{maxMaximum, rows, superseded}
 use Rattle.state.specs.Sound.{sound, isOpen}
 use Rattle.state.proofs.Sound.{Sound, Bounds, sound-tells, sound-bounds}
 use Rattle.translator.specs.declared.Judged.{Judged}
 use Rattle.translator.specs.declared.Transacted.{Transacted}
-use Rattle.translator.specs.declared.counting.Before.{Before}
+use Rattle.translator.specs.declared.counting.Beside.{Beside}
 use Rattle.translator.specs.declared.counting.Effect.{Effect}
 use Rattle.translator.specs.declared.counting.Left.{Left}
 use Rattle.translator.specs.Counting.{addTo, recounted, ended, single, grown, finished, commanded}
-use Rattle.translator.specs.Effect.{begun, kept, leftover, inRow, counted, applied, made, closing, Room, opened, beforeOf, ActsAs, JudgesAs, Within, Fits}
+use Rattle.translator.specs.Effect.{begun, kept, leftover, inRow, counted, applied, made, closing, besideAfter, held, nothing, RowsFit, opened, besideOf, ActsAs, JudgesAs, Within, Fits}
 use Rattle.translator.specs.Effect as effect
-use Rattle.translator.specs.Properties.{Formed, noRow}
+use Rattle.translator.specs.Properties.{noRow}
 use Rattle.translator.specs.Transact.{Stored, stored, with}
 use Rattle.translator.specs.Transact as transact
 use Rattle.translator.proofs.Acts.{left-cases}
-use Rattle.translator.proofs.Added.{added-here}
-use Rattle.translator.proofs.Rows.{in-row-formed, row-fits, open-fits}
 
 -- an effect that adds to a row, and one that adds to none
 abbrev pub rowEffect : ℕ → ℕ → ℕ → ℕ → ℕ → ℕ → ℕ → Effect
 rowEffect closes row packets fragments bytes openFragments openBytes =
-    record { closes = closes; row = row; packets = packets; fragments = fragments; bytes = bytes; «open_fragments» = openFragments; «open_bytes» = openBytes; taken = 0; refused = 0 }
+    record { closes = closes; row = row; packets = packets; fragments = fragments; bytes = bytes; «open_fragments» = openFragments; «open_bytes» = openBytes; taken = 0; refused = 0; total = 1 }
 
 abbrev pub plainEffect : ℕ → ℕ → ℕ → ℕ → ℕ → Effect
 plainEffect closes openFragments openBytes taken refused =
-    record { closes = closes; row = noRow; packets = 0; fragments = 0; bytes = 0; «open_fragments» = openFragments; «open_bytes» = openBytes; taken = taken; refused = refused }
+    record { closes = closes; row = noRow; packets = 0; fragments = 0; bytes = 0; «open_fragments» = openFragments; «open_bytes» = openBytes; taken = taken; refused = refused; total = 1 }
 
 counts-in-row : (closes row packets fragments bytes openFragments openBytes : ℕ) (a : Account) → row < rows
     → counted (rowEffect closes row packets fragments bytes openFragments openBytes) a ≡ recounted a (addTo row packets fragments bytes (a .grid)) openFragments openBytes (a .total + 1)
@@ -80,7 +78,7 @@ module _ (left : Left) (a b : Account) (l : LeftOf left a b) where
       ap (λ (after : Account). stored (with after (j .outcome)) store) (counted-left (j .effect) (does .closes)) ∙ (does .acts b ∙ ap act (l .is-open))
 
 -- nothing is left of an open packet that has ended
-pub ended-left : (a : Account) → Fits (beforeOf a) → (row : ℕ) → row < rows → LeftOf (effect.ended row) a (ended row a)
+pub ended-left : (a : Account) → Fits (besideOf a) → (row : ℕ) → row < rows → LeftOf (effect.ended row) a (ended row a)
 unfolding leftover ended
 ended-left a fits row l = record {
   is-left = if-true _ _ _ (lt-ltb _ _ l);
@@ -93,29 +91,30 @@ ended-left a fits row l = record {
       ap (λ (k : ℕ). recounted a (a .grid) k 0 (a .total)) f ∙ ap (λ (k : ℕ). recounted a (a .grid) (a .«open_fragments») k (a .total)) n);
 }
 
-pub kept-left : (a : Account) → LeftOf (kept (beforeOf a)) a a
+pub kept-left : (a : Account) → LeftOf (kept (besideOf a)) a a
 unfolding leftover if_then_else_
 kept-left a = record { is-left = refl; is-open = refl }
 
-pub begun-left : (first : Bool) (a : Account) → Fits (beforeOf a) → LeftOf (begun first (beforeOf a)) a (transact.begun first a)
+pub begun-left : (first : Bool) (a : Account) → Fits (besideOf a) → LeftOf (begun first (besideOf a)) a (transact.begun first a)
 unfolding begun transact.begun if_then_else_
 begun-left true a fits = ended-left a fits superseded (omega arith)
 begun-left false a fits = kept-left a
 
 -- what a sound account has open
-pub sound-fits : (a : Account) → sound a ≡ true → Fits (beforeOf a)
+pub sound-fits : (a : Account) → sound a ≡ true → Fits (besideOf a)
 sound-fits a s =
     let tells : Sound a = sound-tells a s in
-    record { maximum = tells .counts .most; packet = record { few = open-fits a s .fragments; much = sound-bounds a tells .open-bytes } }
+    let bounds : Bounds a = sound-bounds a tells in
+    record { maximum = tells .counts .most; packet = record { few = omega (arith, bounds .open-fragments, bounds .within); much = bounds .open-bytes } }
 
 -- and so what a First begins on
-pub begun-within : (first : Bool) (before : Before) → Fits before → Within (begun first before .fragments) (begun first before .bytes)
+pub begun-within : (first : Bool) (before : Beside) → Fits before → Within (begun first before .fragments) (begun first before .bytes)
 unfolding begun if_then_else_
 begun-within true before fits = record { few = omega arith; much = omega arith }
 begun-within false before fits = fits .packet
 
 pub begun-judged : (j : Judged) (store : List ℕ) (left : Left) (act : Account → Stored) → JudgesAs left j store act → (first : Bool) (a : Account)
-    → left ≡ begun first (beforeOf a) → Fits (beforeOf a) → stored (made j a) store ≡ act (transact.begun first a)
+    → left ≡ begun first (besideOf a) → Fits (besideOf a) → stored (made j a) store ≡ act (transact.begun first a)
 begun-judged j store left act does first a e fits = judges left a (transact.begun first a) (rw e (begun-left first a fits)) j store act does
 
 -- what is made of an account whose open packet ends in a row, or stays
@@ -123,32 +122,23 @@ module _ (j : Judged) (left : Left) (act : Account → Account) (does : ActsAs l
   makes : (b : Account) → LeftOf left a b → made j a ≡ with (act b) (j .outcome)
   makes b l = ap (λ (after : Account). with after (j .outcome)) (applies left a b l (j .effect) act does)
 
-  pub ended-made : (row : ℕ) → left ≡ effect.ended row → row < rows → Fits (beforeOf a) → made j a ≡ with (act (ended row a)) (j .outcome)
+  pub ended-made : (row : ℕ) → left ≡ effect.ended row → row < rows → Fits (besideOf a) → made j a ≡ with (act (ended row a)) (j .outcome)
   ended-made row e l fits = makes (ended row a) (rw e (ended-left a fits row l))
 
-  pub ended-answered : (settings : List ℕ) (row : ℕ) → left ≡ effect.ended row → row < rows → Fits (beforeOf a)
+  pub ended-answered : (settings : List ℕ) (row : ℕ) → left ≡ effect.ended row → row < rows → Fits (besideOf a)
       → answered (made j a) settings ≡ answered (with (act (ended row a)) (j .outcome)) settings
   ended-answered settings row e l fits = ap (λ (r : Transacted). answered r settings) (ended-made row e l fits)
 
-  pub kept-made : left ≡ kept (beforeOf a) → made j a ≡ with (act a) (j .outcome)
+  pub kept-made : left ≡ kept (besideOf a) → made j a ≡ with (act a) (j .outcome)
   kept-made e = makes a (rw e (kept-left a))
 
-  pub kept-stored : (store : List ℕ) → left ≡ kept (beforeOf a) → stored (made j a) store ≡ stored (with (act a) (j .outcome)) store
+  pub kept-stored : (store : List ℕ) → left ≡ kept (besideOf a) → stored (made j a) store ≡ stored (with (act a) (j .outcome)) store
   kept-stored store e = ap (λ (r : Transacted). stored r store) (kept-made e)
 
 -- an effect, field by field
 module _ (e : Effect) (a : Account) where
   abbrev fields : List ℕ → Account
-  fields grid =
-      record {
-        maximum = a .maximum;
-        grid = inRow (e .row) (e .packets) (e .fragments) (e .bytes) grid;
-        «open_fragments» = e .«open_fragments»;
-        «open_bytes» = e .«open_bytes»;
-        taken = a .taken + e .taken;
-        refused = a .refused + e .refused;
-        total = a .total + 1;
-      }
+  fields grid = held (besideAfter e (besideOf a)) (inRow (e .row) (e .packets) (e .fragments) (e .bytes) grid)
 
   pub applied-is : applied e a ≡ fields (inRow (closing (e .closes) (a .«open_fragments»)) 1 (a .«open_fragments») (a .«open_bytes») (a .grid))
   unfolding applied counted inRow closing
@@ -157,43 +147,17 @@ module _ (e : Effect) (a : Account) where
       (λ same l. ap fields (sym (rw same (if-true (ltb (e .closes) rows) (addTo (e .closes) 1 (a .«open_fragments») (a .«open_bytes») (a .grid)) (a .grid) (lt-ltb _ _ l)))))
       (λ many. ap fields (sym (if-false _ _ _ (le-ltb _ _ many))))
 
-  module _ (formed : Formed a) (s : sound a ≡ true) (s' : sound (applied e a) ≡ true) where
-    abbrev closed : List ℕ
-    closed = inRow (closing (e .closes) (a .«open_fragments»)) 1 (a .«open_fragments») (a .«open_bytes») (a .grid)
+-- the effect that counts nothing leaves the account
+closes-nothing : (openFragments : ℕ) → closing noRow openFragments ≡ noRow
+unfolding closing
+closes-nothing openFragments = if-cases (λ (row : ℕ). row ≡ noRow) (ltb 0 openFragments) _ _ (λ _. refl) (λ _. refl)
 
-    pub open-packet-fits : Room (closing (e .closes) (a .«open_fragments»)) 1 (a .«open_fragments») (a .«open_bytes») (a .grid)
-    open-packet-fits l =
-        let fits : _ = open-fits a s in
-        let room : _ = row-fits a s (closing (e .closes) (a .«open_fragments»)) 1 (a .«open_fragments») (a .«open_bytes») l (omega arith) (omega (arith, fits .fragments)) (omega (arith, fits .bytes)) in
-        (room .1, room .2, room .3)
+pub nothing-applied : (a : Account) → applied (nothing (besideOf a)) a ≡ a
+unfolding applied counted leftover inRow if_then_else_
+nothing-applied a = rw (add-zero (a .taken), add-zero (a .refused), add-zero (a .total))
 
-    -- the cells are those of a sound account, so they fit
-    pub own-row-fits : Room (e .row) (e .packets) (e .fragments) (e .bytes) closed
-    unfolding inRow
-    own-row-fits l =
-        let grid-is : applied e a .grid ≡ addTo (e .row) (e .packets) (e .fragments) (e .bytes) closed = ap (λ (b : Account). b .grid) applied-is ∙ if-true _ _ _ (lt-ltb _ _ l) in
-        let cells : _ = added-here closed (e .row) (e .packets) (e .fragments) (e .bytes) (in-row-formed (a .grid) (closing (e .closes) (a .«open_fragments»)) 1 (a .«open_fragments») (a .«open_bytes») formed) l in
-        let bounds : Bounds (applied e a) = sound-bounds (applied e a) (sound-tells (applied e a) s') in
-        let within : _ = bounds .within in
-        let few : _ = rw grid-is at (bounds .packets (e .row) l) in
-        let much : _ = rw grid-is at (bounds .bytes (e .row) l) in
-        let fragments : _ = rw grid-is at (bounds .fragments (e .row) l) in
-        let p : _ = cells .packets-are in
-        let f : _ = cells .fragments-are in
-        let n : _ = cells .bytes-are in
-        (omega arith, omega arith, omega arith)
-
-    pub record Sums : Type 0 where
-      pub taken : a .taken + e .taken ≤ limit
-      pub refused : a .refused + e .refused ≤ limit
-      pub total : a .total + 1 ≤ limit
-
-    pub sums-fit : Sums
-    sums-fit =
-        let fits : _ = open-fits (applied e a) s' in
-        let bounds : Bounds (applied e a) = sound-bounds (applied e a) (sound-tells (applied e a) s') in
-        record {
-          taken = subst (λ (b : Account). b .taken ≤ limit) applied-is (fits .taken);
-          refused = subst (λ (b : Account). b .refused ≤ limit) applied-is (fits .refused);
-          total = subst (λ (b : Account). b .total ≤ limit) applied-is (bounds .within);
-        }
+pub nothing-fits : (b : Beside) (r : List (List ℕ)) → RowsFit b (nothing b) r
+nothing-fits b r = record {
+  own = λ l. absurd (omega arith);
+  closed = λ l. let none : closing noRow (b .«open_fragments») ≡ noRow = closes-nothing (b .«open_fragments») in absurd (omega arith);
+}

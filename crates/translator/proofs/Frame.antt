@@ -10,10 +10,10 @@ use borrow.Author.Tests.{le-ltb}
 use Rattle.prelude.proofs.Tests.{if-cases, if-false}
 use Rattle.state.specs.declared.Account.{Account}
 use Rattle.state.specs.Account.{rows, superseded, broken, aborted, badlength}
-use Rattle.translator.specs.declared.Outcome.{Outcome}
+use Rattle.outcome.specs.declared.Outcome.{Outcome}
 use Rattle.translator.specs.Command.{commands, classIn}
 use Rattle.translator.specs.Effect.{leftover}
-use Rattle.translator.specs.Outcome.{numberOf}
+use Rattle.outcome.specs.Outcome.{numberOf}
 use Rattle.translator.specs.Transact.{Done}
 use Rattle.translator.specs.Properties.{Formed, noRow, ownRow, closesIn, closedRow, SameRow, Frames, EveryFrame, Adds, Closing, EveryClosing, Packet, openPacket, leftOpen, Leaves, EveryLeaving}
 use Rattle.translator.proofs.Ways.{Went, by-way}

@@ -13,12 +13,12 @@ use Rattle.packet.specs.Store.{minSent, appended, filled}
 use Rattle.packet.proofs.Properties.{leaves-the-rest}
 use Rattle.settings.specs.Properties.{KeepsTheRest}
 use Rattle.state.specs.declared.Account.{Account}
-use Rattle.translator.specs.declared.Cause.the-variants as cause
-use Rattle.translator.specs.declared.Outcome.{Outcome}
-use Rattle.translator.specs.declared.Outcome.the-variants as outcome
+use Rattle.outcome.specs.declared.Cause.the-variants as cause
+use Rattle.outcome.specs.declared.Outcome.{Outcome}
+use Rattle.outcome.specs.declared.Outcome.the-variants as outcome
 use Rattle.translator.specs.Command.{commands, classIn}
 use Rattle.translator.specs.Effect.{leftover}
-use Rattle.translator.specs.Outcome.{numberOf}
+use Rattle.outcome.specs.Outcome.{numberOf}
 use Rattle.translator.specs.Transact.{Done}
 use Rattle.translator.specs.Properties.{closesIn, completes, Packet, leftOpen, Keeps, EveryKeeping}
 use Rattle.translator.proofs.Frame.{left-is}

@@ -3,8 +3,7 @@
 use Prim.Native.Nat.{ℕ, _<_, _≤_}
 use mathlib.Core.Bool.{Bool, true, false}
 use mathlib.Core.List.{List}
-use mathlib.Core.Path.{_≡_, refl, sym, ap, _∙_}
-use lib.Dec.{eqb, ltb}
+use mathlib.Core.Path.{_≡_, refl, ap, _∙_}
 use lib.ListN.{length}
 use borrow.Author.Tests.{eqb-true, eqb-false, ltb-true, ltb-false, lt-ltb, le-ltb}
 use Rattle.prelude.proofs.Tests.{if-true, if-false, if-cases}
@@ -13,14 +12,15 @@ use Rattle.settings.specs.Record as settings-record
 use Rattle.state.specs.declared.Account.{Account}
 use Rattle.state.specs.Account.{limit, superseded, aborted}
 use Rattle.state.specs.Sound.{sound}
-use Rattle.translator.specs.declared.Cause.the-variants as cause
-use Rattle.translator.specs.declared.Outcome.the-variants as outcome
+use Rattle.outcome.specs.declared.Cause.the-variants as cause
+use Rattle.outcome.specs.declared.Outcome.the-variants as outcome
+use Rattle.translator.specs.declared.Readiness.{Readiness}
 use Rattle.translator.specs.declared.Sequence.{Sequence}
 use Rattle.translator.specs.declared.Sequence.the-variants as sequence
 use Rattle.translator.specs.declared.command.Class.{Class}
 use Rattle.translator.specs.Command.{commands, classIn}
 use Rattle.translator.specs.Counting.{ended, single}
-use Rattle.translator.specs.Transact.{Stored, stored, with, Done, done, inStore, badLength, sequenceOf, begun, joined, bySequence, fragment, enable, unknown, byClass, transacted}
+use Rattle.translator.specs.Transact.{stored, with, Done, done, inStore, badLength, sequenceOf, begun, joined, bySequence, fragment, enable, unknown, byClass, readinessOf, byReadiness, transacted}
 
 module _ (bytes : List ℕ) (last linkUp : Bool) (a : Account) (store : List ℕ) where
   pub fragment-empty : (first : Bool) → length bytes < 1 → fragment bytes first last linkUp a store ≡ stored (badLength a) store
@@ -84,13 +84,16 @@ module _ (P : Done → Type 0) (a : Account) (store settings : List ℕ) (comman
       → (maxPacket ≤ length store → settings-record.size ≤ length settings → sound a ≡ true → settings-record.sound settings ≡ true → (a .total ≡ limit → ⊥)
       → P (byClass (classIn commands command) command bytes linkUp a store settings))
       → P (transacted a store settings command bytes linkUp)
-  unfolding transacted
+  unfolding transacted readinessOf byReadiness
   by-answer no-store no-record not-sound record-not-sound full counted =
-      if-cases P _ _ _ (λ e. no-store (ltb-true _ _ e))
-      (λ room. if-cases P _ _ _ (λ e. no-record (ltb-true _ _ e))
-      (λ record-room. if-cases P _ _ _
-      (λ is-sound. if-cases P _ _ _
+      if-cases Q _ _ _ (λ e. no-store (ltb-true _ _ e))
+      (λ room. if-cases Q _ _ _ (λ e. no-record (ltb-true _ _ e))
+      (λ record-room. if-cases Q _ _ _
+      (λ is-sound. if-cases Q _ _ _
       (λ record-is-sound. if-cases P _ _ _ (λ e. full (eqb-true _ _ e))
       (λ n. counted (ltb-false _ _ room) (ltb-false _ _ record-room) is-sound record-is-sound (eqb-false _ _ n)))
       (record-not-sound (ltb-false _ _ record-room)))
       not-sound))
+    where
+      Q : Readiness → Type 0
+      Q r = P (byReadiness r command bytes linkUp a store settings)

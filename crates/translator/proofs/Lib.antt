@@ -3,9 +3,12 @@ pub mod Added
 pub mod Commands
 pub mod Effects
 pub mod Frame
+pub mod Held
 pub mod Keeping
 pub mod Laws
 pub mod Properties
 pub mod Rows
+pub mod Replays
 pub mod Soundness
+pub mod Usable
 pub mod Ways

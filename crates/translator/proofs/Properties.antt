@@ -1,7 +1,7 @@
 -- Every transaction is counted once or changes nothing, and keeps account and record sound.
 -- Assumes nothing.
 use Prim.Native.Nat.{ℕ, _+_, _<_, _≤_}
-use mathlib.Core.Bool.{Bool, true}
+use mathlib.Core.Bool.{true}
 use mathlib.Core.List.{List}
 use mathlib.Core.Path.{_≡_, refl, sym, ap, subst, _∙_}
 use native.Mathlib.Nat.{not-le-of-lt}
@@ -9,20 +9,19 @@ use native.Mathlib.Omega.{arith}
 use lib.ListN.{length}
 use borrow.Author.Tests.{ltb-true}
 use Rattle.prelude.proofs.Tests.{if-cases}
-use Rattle.settings.specs.Record as settings-record
 use Rattle.state.specs.declared.Account.{Account}
 use Rattle.state.specs.Account.{rows}
 use Rattle.state.specs.Sound.{sound}
-use Rattle.translator.specs.declared.Outcome.{Outcome}
+use Rattle.outcome.specs.declared.Outcome.{Outcome}
 use Rattle.translator.specs.Command.{commands, classIn}
 use Rattle.translator.specs.Effect.{leftover}
-use Rattle.translator.specs.Outcome.{numberOf}
-use Rattle.translator.specs.Transact.{Done, done, with, byClass}
+use Rattle.outcome.specs.Outcome.{numberOf}
+use Rattle.translator.specs.Transact.{Done, done, with}
 use Rattle.translator.specs.Properties.{Formed, closesIn, Counts, EveryTransaction}
 use Rattle.translator.proofs.Acts.{Closes, closes-in, left-formed, left-beside, act-formed, act-sound}
 use Rattle.translator.proofs.Frame.{beside}
 use Rattle.translator.proofs.Soundness.{ended-sound}
-use Rattle.translator.proofs.Ways.{Ready, Went, by-class-goes, by-way}
+use Rattle.translator.proofs.Ways.{Ready, Went, by-way}
 
 -- what is left can take a transaction, as the whole could
 left-ready : (row : ℕ) (a : Account) → (row < rows → Closes row) → Ready a → Ready (leftover row a)
@@ -48,11 +47,6 @@ counted a store settings command bytes d r w =
       record-stays-sound = λ _. w .settings-are .stays-sound;
       record-changes = w .settings-are .changes;
     }
-
-pub counted-stays-sound : (a : Account) (store settings : List ℕ) (command : ℕ) (bytes : List ℕ) (linkUp : Bool) → Ready a → settings-record.sound settings ≡ true
-    → sound (byClass (classIn commands command) command bytes linkUp a store settings .result .account) ≡ true
-counted-stays-sound a store settings command bytes linkUp r s =
-    counted a store settings command bytes _ r (by-class-goes a r store settings bytes s (classIn commands command) command linkUp) .account-stays-sound (r .is-sound)
 
 -- a transaction that is refused outright
 unmoved : (a : Account) (store settings : List ℕ) (o : Outcome) → Formed a → 12 ≤ numberOf o → Counts a store settings (done (with a o) store settings)

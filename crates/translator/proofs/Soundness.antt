@@ -144,10 +144,6 @@ module _ (a : Account) (formed : Formed a) (h : sound a ≡ true) where
   commanded-sound true less = one-command-more (a .taken + 1) (a .refused) (omega arith) less
   commanded-sound false less = one-command-more (a .taken) (a .refused + 1) (omega arith) less
 
-  pub ended-total : (row : ℕ) → ended row a .total ≡ a .total
-  unfolding ended
-  ended-total row = if-cases (λ (b : Account). b .total ≡ a .total) _ _ _ (λ _. refl) (λ _. refl)
-
 -- a fragment of at most the account's maximum is one of at most 240
 pub within-maximum : (a : Account) (size : ℕ) → sound a ≡ true → size ≤ a .maximum → size ≤ maxMaximum
 within-maximum a size h l = omega (arith, sound-tells a h .counts .most)

@@ -8,7 +8,7 @@ use mathlib.Core.Path.{_≡_, refl, sym, ap, subst, _∙_}
 use native.Mathlib.Omega.{arith}
 use lib.Dec.{eqb, ltb}
 use lib.ListN.{length}
-use borrow.Author.Tests.{ltb-true, ltb-false, eqb-false}
+use borrow.Author.Tests.{ltb-true, ltb-false}
 use Rattle.prelude.specs.Choice.{if_then_else_}
 use Rattle.prelude.proofs.Tests.{if-cases, if-true, if-false}
 use Rattle.packet.specs.Store.{appended, filled, sentLength}
@@ -22,20 +22,21 @@ use Rattle.state.specs.declared.Account.{Account}
 use Rattle.state.specs.Account.{limit, maxMaximum, rows, sent, superseded, flushed, broken, over, short, linkdown, aborted, badlength}
 use Rattle.state.specs.Sound.{sound}
 use Rattle.state.proofs.Sound.{sound-tells, sound-bounds}
-use Rattle.translator.specs.declared.Cause.{Cause}
-use Rattle.translator.specs.declared.Cause.the-variants as cause
-use Rattle.translator.specs.declared.Outcome.{Outcome}
-use Rattle.translator.specs.declared.Outcome.the-variants as outcome
+use Rattle.outcome.specs.declared.Cause.{Cause}
+use Rattle.outcome.specs.declared.Cause.the-variants as cause
+use Rattle.outcome.specs.declared.Outcome.{Outcome}
+use Rattle.outcome.specs.declared.Outcome.the-variants as outcome
 use Rattle.translator.specs.declared.Sequence.{Sequence}
 use Rattle.translator.specs.declared.command.Class.{Class}
 use Rattle.translator.specs.declared.command.Class.the-variants as class
 use Rattle.translator.specs.Command.{commands, classIn, hasBothFlags}
 use Rattle.translator.specs.Counting.{ended, single, grown, finished, commanded}
 use Rattle.translator.specs.Effect.{leftover}
-use Rattle.translator.specs.Outcome.{numberOf}
-use Rattle.translator.specs.Transact.{Stored, Done, done, with, badLength, begun, lastJudged, joined, bySequence, sequenceOf, fragment, isTaken, enable, unknown, inStore, byClass, transacted}
+use Rattle.outcome.specs.Outcome.{numberOf}
+use Rattle.translator.specs.Transact.{Stored, Done, done, with, badLength, begun, lastJudged, joined, bySequence, sequenceOf, fragment, isTaken, enable, unknown, inStore, byClass}
 use Rattle.translator.specs.Properties.{Formed, Every, noRow, ownRow, fragmentCloses, closesIn, completes}
 use Rattle.translator.proofs.Added.{same-or-not}
+use Rattle.translator.proofs.Laws.{by-answer}
 use Rattle.translator.proofs.Soundness.{not-full}
 
 -- what is counted then: a fragment alone in a row, one that its packet takes in, a Last that ends it in a row, or a command
@@ -265,15 +266,14 @@ module _ (P : Account → List ℕ → List ℕ → ℕ → List ℕ → Done �
   pub by-way : ((a : Account) (store settings : List ℕ) (command : ℕ) (bytes : List ℕ) (o : Outcome) → Formed a → 12 ≤ numberOf o → P a store settings command bytes (done (with a o) store settings))
       → ((a : Account) (store settings : List ℕ) (command : ℕ) (bytes : List ℕ) (d : Done) → Ready a → Went a store settings bytes (closesIn (classIn commands command) command) d → P a store settings command bytes d)
       → Every P
-  unfolding transacted
   by-way refused counted a store settings command bytes linkUp formed =
-      if-cases Q _ _ _ (λ _. refuse outcome.NoRoom (omega arith))
-      (λ _. if-cases Q _ _ _ (λ _. refuse outcome.NoRoom (omega arith))
-      (λ _. if-cases Q _ _ _
-      (λ h. if-cases Q _ _ _
-      (λ s. if-cases Q _ _ _ (λ _. refuse outcome.Full (omega arith)) (λ n. count h s n))
-      (λ _. refuse outcome.NotSound (omega arith)))
-      (λ _. refuse outcome.NotSound (omega arith))))
+      by-answer Q a store settings command bytes linkUp
+      (λ _. refuse outcome.NoRoom (omega arith))
+      (λ _. refuse outcome.NoRoom (omega arith))
+      (λ _. refuse outcome.NotSound (omega arith))
+      (λ _ _. refuse outcome.NotSound (omega arith))
+      (λ _. refuse outcome.Full (omega arith))
+      (λ _ _ h s n. count h s n)
     where
       Q : Done → Type 0
       Q d = P a store settings command bytes d
@@ -281,8 +281,8 @@ module _ (P : Account → List ℕ → List ℕ → ℕ → List ℕ → Done �
       refuse : (o : Outcome) → 12 ≤ numberOf o → Q (done (with a o) store settings)
       refuse o many = refused a store settings command bytes o formed many
 
-      count : sound a ≡ true → settings-record.sound settings ≡ true → eqb (a .total) limit ≡ false
+      count : sound a ≡ true → settings-record.sound settings ≡ true → (a .total ≡ limit → ⊥)
           → Q (byClass (classIn commands command) command bytes linkUp a store settings)
       count h s n =
-          let ready : Ready a = record { formed = formed; is-sound = h; room = not-full a h (eqb-false _ _ n) } in
+          let ready : Ready a = record { formed = formed; is-sound = h; room = not-full a h n } in
           counted a store settings command bytes _ ready (by-class-goes a ready store settings bytes s (classIn commands command) command linkUp)

@@ -1,7 +1,7 @@
 pub mod Command
 pub mod Counting
 pub mod Effect
-pub mod Grid
-pub mod Outcome
 pub mod Properties
+pub mod Replay
+pub mod Rows
 pub mod Transact

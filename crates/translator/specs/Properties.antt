@@ -13,14 +13,14 @@ use Rattle.settings.specs.Record as settings-record
 use Rattle.state.specs.declared.Account.{Account}
 use Rattle.state.specs.Account.{rows, columns, sent, superseded, flushed, broken, over, short, linkdown, aborted, badlength, packetsIn, fragmentsIn, bytesIn}
 use Rattle.state.specs.Sound.{sound, isOpen}
-use Rattle.translator.specs.declared.Cause.{Cause}
-use Rattle.translator.specs.declared.Cause.the-variants as cause
-use Rattle.translator.specs.declared.Outcome.{Outcome}
-use Rattle.translator.specs.declared.Outcome.the-variants as outcome
+use Rattle.outcome.specs.declared.Cause.{Cause}
+use Rattle.outcome.specs.declared.Cause.the-variants as cause
+use Rattle.outcome.specs.declared.Outcome.{Outcome}
+use Rattle.outcome.specs.declared.Outcome.the-variants as outcome
 use Rattle.translator.specs.declared.command.Class.{Class}
 use Rattle.translator.specs.declared.command.Class.the-variants as class
 use Rattle.translator.specs.Command.{commands, classIn, hasBothFlags}
-use Rattle.translator.specs.Outcome.{causeNumber, numberOf}
+use Rattle.outcome.specs.Outcome.{causeNumber, numberOf}
 use Rattle.translator.specs.Transact.{Done, done, transacted}
 
 -- an account as the program holds one: its grid has its rows and columns
@@ -156,7 +156,7 @@ pub record Keeps (at size : ℕ) (o : Outcome) (before after : List ℕ) : Type 
   pub behind-its-place : (k : ℕ) → at + size ≤ k → (minSent ≤ k) ⊎ (numberOf o ≡ 1 → ⊥) → getD after k 0 ≡ getD before k 0
   pub past-1536 : (k : ℕ) → maxPacket ≤ k → getD after k 0 ≡ getD before k 0
 
--- a fragment goes behind what is left; "Bytes past those lengths never change", nor those of the record
+-- a fragment goes behind what is left; "Bytes past those lengths never change", of the store and of the record alike
 abbrev pub EveryKeeping : Type 0
 EveryKeeping =
     Every (λ account store settings command bytes after.

@@ -13,10 +13,12 @@ use Rattle.settings.specs.Enable.{numberOf, Answered, answered, receiveEnabled}
 use Rattle.state.specs.declared.Account.{Account}
 use Rattle.state.specs.Account.{limit, sent, superseded, flushed, broken, over, short, linkdown, aborted, badlength}
 use Rattle.state.specs.Sound.{sound}
-use Rattle.translator.specs.declared.Cause.the-variants as cause
-use Rattle.translator.specs.declared.Outcome.{Outcome}
-use Rattle.translator.specs.declared.Outcome.the-variants as outcome
+use Rattle.outcome.specs.declared.Cause.the-variants as cause
+use Rattle.outcome.specs.declared.Outcome.{Outcome}
+use Rattle.outcome.specs.declared.Outcome.the-variants as outcome
 use Rattle.translator.specs.declared.Transacted.{Transacted}
+use Rattle.translator.specs.declared.Readiness.{Readiness}
+use Rattle.translator.specs.declared.Readiness.the-variants as readiness
 use Rattle.translator.specs.declared.Sequence.{Sequence}
 use Rattle.translator.specs.declared.Sequence.the-variants as sequence
 use Rattle.translator.specs.declared.command.Class.{Class}
@@ -118,14 +120,22 @@ byClass class.Whole command bytes linkUp a store settings = inStore (fragment by
 byClass class.Enable command bytes linkUp a store settings = done (enable bytes a settings .answer) store (enable bytes a settings .settings)
 byClass class.Unknown command bytes linkUp a store settings = done (unknown command a) store settings
 
+-- 12: "store or record too short"; 13: "state or settings record not sound"
+unfoldable pub readinessOf : Account → List ℕ → List ℕ → Readiness
+readinessOf a store settings =
+    if ltb (length store) maxPacket then readiness.Refused outcome.NoRoom else
+    if ltb (length settings) settings-record.size then readiness.Refused outcome.NoRoom else
+    if sound a then
+    (if settings-record.sound settings then readiness.Ready else readiness.Refused outcome.NotSound)
+    else readiness.Refused outcome.NotSound
+
+-- 14: "account full"
+unfoldable pub byReadiness : Readiness → ℕ → List ℕ → Bool → Account → List ℕ → List ℕ → Done
+byReadiness (readiness.Refused o) command bytes linkUp a store settings = done (with a o) store settings
+byReadiness readiness.Ready command bytes linkUp a store settings =
+    if eqb (a .total) limit then done (with a outcome.Full) store settings else
+    byClass (classIn commands command) command bytes linkUp a store settings
+
 -- "Order: 12, 13, 14; then by command."
 unfoldable pub transacted : Account → List ℕ → List ℕ → ℕ → List ℕ → Bool → Done
-transacted a store settings command bytes linkUp =
-    if ltb (length store) maxPacket then done (with a outcome.NoRoom) store settings else
-    if ltb (length settings) settings-record.size then done (with a outcome.NoRoom) store settings else
-    if sound a then
-    (if settings-record.sound settings then
-    (if eqb (a .total) limit then done (with a outcome.Full) store settings else
-    byClass (classIn commands command) command bytes linkUp a store settings)
-    else done (with a outcome.NotSound) store settings)
-    else done (with a outcome.NotSound) store settings
+transacted a store settings command bytes linkUp = byReadiness (readinessOf a store settings) command bytes linkUp a store settings

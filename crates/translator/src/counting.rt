@@ -1,24 +1,26 @@
-// How a transaction is counted. What it does to the account is decided on a few numbers, as an
-// effect, and the account is made anew once. A row is named in this crate alone.
+// How a transaction is counted. An account is held as the rows of its grid and the numbers beside
+// them; what a transaction does to it is decided on these numbers, as an effect, and counted where
+// the rows lie. No public operation takes a row.
 use state::Account;
-ghost use mathlib.Core.Bool.{true};
 ghost use mathlib.Core.Path.{_≡_};
 ghost use Prim.Native.Nat.{_+_, _<_, _≤_, _^_};
-ghost use Rattle.state.specs.declared.Account.{Account};
-ghost use Rattle.state.specs.Account.{limit, rows};
-ghost use Rattle.state.specs.Sound.{sound};
-ghost use Rattle.translator.specs.Grid.{rowsOf, flatOf, inRows, cell};
+ghost use Rattle.state.specs.Account.{limit, rows as rowCount};
+ghost use Rattle.state.specs.Grid.{flatOf};
+ghost use Rattle.translator.specs.Rows.{Room, inRows};
 ghost use Rattle.translator.specs.Counting.{commanded as Counting·commanded, finished as Counting·finished, grown as Counting·grown, single as Counting·single};
-ghost use Rattle.translator.specs.Effect.{ActsAs, Room, applied as Effect·applied, closing as Effect·closing, ended as Effect·ended, gridAfter, inRow, kept as Effect·kept};
+ghost use Rattle.translator.specs.Effect.{ActsAs, RowsFit, NumbersFit, besideAfter, besideOf, closing as Effect·closing, ended as Effect·ended, held, kept as Effect·kept, nothing as Effect·nothing, rowsAfter};
 
 // No row of the grid.
 const NO_ROW: usize = state::ROWS;
 
-// What of an account a transaction is judged by: the fragment maximum, and the open packet.
-pub(crate) struct Before {
+// The numbers of an account beside its grid.
+pub(crate) struct Beside {
     pub maximum: u64,
     pub open_fragments: u64,
     pub open_bytes: u64,
+    pub taken: u64,
+    pub refused: u64,
+    pub total: u64,
 }
 
 // What is left of the open packet once it has ended in a row, or in NO_ROW.
@@ -28,7 +30,7 @@ pub(crate) struct Left {
     pub bytes: u64,
 }
 
-// What a counted transaction does to an account.
+// What a transaction does to an account.
 pub(crate) struct Effect {
     // The row in which the open packet ends, or NO_ROW.
     pub closes: usize,
@@ -43,6 +45,8 @@ pub(crate) struct Effect {
     // Commands.
     pub taken: u64,
     pub refused: u64,
+    // Transactions: 1, or 0 where nothing is counted.
+    pub total: u64,
 }
 
 // The open packet, if there is one, ends in the row.
@@ -57,19 +61,19 @@ pub(crate) fn ended(row: usize) -> Left
 }
 
 // The open packet stays as it is.
-pub(crate) fn kept(before: Before) -> Left
-    ensures { λ r. ⌜ r ≡ Effect·kept before ⌝ }
+pub(crate) fn kept(beside: Beside) -> Left
+    ensures { λ r. ⌜ r ≡ Effect·kept beside ⌝ }
 {
     Left {
         closes: NO_ROW,
-        fragments: before.open_fragments,
-        bytes: before.open_bytes,
+        fragments: beside.open_fragments,
+        bytes: beside.open_bytes,
     }
 }
 
 // A fragment of no packet is counted in the row.
 pub(crate) fn single(left: Left, row: usize, bytes: u64) -> Effect
-    requires { ⌜ row < rows ⌝ }
+    requires { ⌜ row < rowCount ⌝ }
     ensures { λ r. ⌜ ActsAs left r (Counting·single row bytes) ⌝ }
 {
     Effect {
@@ -82,6 +86,7 @@ pub(crate) fn single(left: Left, row: usize, bytes: u64) -> Effect
         open_bytes: left.bytes,
         taken: 0,
         refused: 0,
+        total: 1,
     }
 }
 
@@ -100,12 +105,13 @@ pub(crate) fn grown(left: Left, bytes: u64) -> Effect
         open_bytes: left.bytes + bytes,
         taken: 0,
         refused: 0,
+        total: 1,
     }
 }
 
 // A Last is taken, and its packet ends in the row.
 pub(crate) fn finished(left: Left, row: usize, bytes: u64) -> Effect
-    requires { ⌜ (row < rows) × (left .fragments ≤ limit) × (left .bytes + bytes < 2 ^ 64) ⌝ }
+    requires { ⌜ (row < rowCount) × (left .fragments ≤ limit) × (left .bytes + bytes < 2 ^ 64) ⌝ }
     ensures { λ r. ⌜ ActsAs left r (Counting·finished row bytes) ⌝ }
 {
     Effect {
@@ -118,6 +124,7 @@ pub(crate) fn finished(left: Left, row: usize, bytes: u64) -> Effect
         open_bytes: 0,
         taken: 0,
         refused: 0,
+        total: 1,
     }
 }
 
@@ -135,6 +142,7 @@ pub(crate) fn commanded(left: Left, is_taken: bool) -> Effect
         open_bytes: left.bytes,
         taken: 0,
         refused: 1,
+        total: 1,
     };
     if is_taken {
         effect.taken = 1;
@@ -143,32 +151,55 @@ pub(crate) fn commanded(left: Left, is_taken: bool) -> Effect
     effect
 }
 
-// The account after the effect of a transaction. It is made from its numbers and not copied and
-// changed: so the compiler holds them apart, and copies no grid where no row changes.
-pub(crate) fn applied(account: Account, effect: Effect) -> Account
-    requires { ⌜ (sound account ≡ true) × (sound (Effect·applied effect account) ≡ true) ⌝ }
-    ensures { λ r. ⌜ r ≡ Effect·applied effect account ⌝ }
+// Nothing is counted.
+pub(crate) fn nothing(beside: Beside) -> Effect
+    ensures { λ r. ⌜ r ≡ Effect·nothing beside ⌝ }
 {
-    let grid = account.grid;
-    let counted = grid_after(
-        grid,
-        closing(effect.closes, account.open_fragments),
-        account.open_fragments,
-        account.open_bytes,
+    Effect {
+        closes: NO_ROW,
+        row: NO_ROW,
+        packets: 0,
+        fragments: 0,
+        bytes: 0,
+        open_fragments: beside.open_fragments,
+        open_bytes: beside.open_bytes,
+        taken: 0,
+        refused: 0,
+        total: 0,
+    }
+}
+
+// Counts the effect of a transaction in the rows of an account: its own row, and the one in which
+// the open packet ends.
+pub(crate) fn count(rows: &mut [[u64; 3]; 9], beside: Beside, effect: Effect)
+    requires { ⌜ RowsFit beside effect (now rows) ⌝ }
+    ensures { λ _. ⌜ now (rows .exit) ≡ rowsAfter beside effect (now (rows .entry)) ⌝ }
+{
+    add_to(
+        rows,
         effect.row,
         effect.packets,
         effect.fragments,
         effect.bytes,
     );
-    Account {
-        maximum: account.maximum,
-        grid: counted,
-        open_fragments: effect.open_fragments,
-        open_bytes: effect.open_bytes,
-        taken: account.taken + effect.taken,
-        refused: account.refused + effect.refused,
-        total: account.total + 1,
+    add_to(
+        rows,
+        closing(effect.closes, beside.open_fragments),
+        1,
+        beside.open_fragments,
+        beside.open_bytes,
+    );
+}
+
+fn add_to(rows: &mut [[u64; 3]; 9], row: usize, packets: u64, fragments: u64, bytes: u64)
+    requires { ⌜ Room row packets fragments bytes (now rows) ⌝ }
+    ensures { λ _. ⌜ now (rows .exit) ≡ inRows (now (rows .entry)) row packets fragments bytes ⌝ }
+{
+    if NO_ROW <= row {
+        return;
     }
+    let cells = rows[row];
+    rows[row] = [cells[0] + packets, cells[1] + fragments, cells[2] + bytes];
 }
 
 // The row in which the open packet ends: none where none is open.
@@ -181,94 +212,46 @@ fn closing(row: usize, open_fragments: u64) -> usize
     row
 }
 
-// The grid with the open packet in the row in which it ends, and what is added to another row.
-fn grid_after(
-    grid: [u64; 27],
-    closes: usize,
-    open_fragments: u64,
-    open_bytes: u64,
-    row: usize,
-    packets: u64,
-    fragments: u64,
-    bytes: u64,
-) -> [u64; 27]
-    requires { ⌜ Room closes 1 «open_fragments» «open_bytes» grid × Room row packets fragments bytes (inRow closes 1 «open_fragments» «open_bytes» grid) ⌝ }
-    ensures { λ r. ⌜ r ≡ gridAfter closes «open_fragments» «open_bytes» row packets fragments bytes grid ⌝ }
+// The numbers beside the grid after the effect of a transaction.
+pub(crate) fn beside_after(beside: Beside, effect: Effect) -> Beside
+    requires { ⌜ NumbersFit beside effect ⌝ }
+    ensures { λ r. ⌜ r ≡ besideAfter effect beside ⌝ }
 {
-    if NO_ROW <= closes {
-        if NO_ROW <= row {
-            return grid;
-        }
+    Beside {
+        maximum: beside.maximum,
+        open_fragments: effect.open_fragments,
+        open_bytes: effect.open_bytes,
+        taken: beside.taken + effect.taken,
+        refused: beside.refused + effect.refused,
+        total: beside.total + effect.total,
     }
-    let closed = added_to(rows_of(grid), closes, 1, open_fragments, open_bytes);
-    flat_of(added_to(closed, row, packets, fragments, bytes))
 }
 
-fn added_to(
-    before: [[u64; 3]; 9],
-    row: usize,
-    packets: u64,
-    fragments: u64,
-    bytes: u64,
-) -> [[u64; 3]; 9]
-    requires { ⌜ (row < rows → (cell before row 0 + packets < 2 ^ 64) × (cell before row 1 + fragments < 2 ^ 64) × (cell before row 2 + bytes < 2 ^ 64)) ⌝ }
-    ensures { λ r. ⌜ r ≡ inRows before row packets fragments bytes ⌝ }
+// The numbers of the account beside its grid.
+pub(crate) fn beside_of(account: Account) -> Beside
+    ensures { λ r. ⌜ r ≡ besideOf account ⌝ }
 {
-    if NO_ROW <= row {
-        return before;
+    Beside {
+        maximum: account.maximum,
+        open_fragments: account.open_fragments,
+        open_bytes: account.open_bytes,
+        taken: account.taken,
+        refused: account.refused,
+        total: account.total,
     }
-    let mut after = before;
-    let cells = after[row];
-    after[row] = [cells[0] + packets, cells[1] + fragments, cells[2] + bytes];
-    after
 }
 
-fn rows_of(g: [u64; 27]) -> [[u64; 3]; 9]
-    ensures { λ r. ⌜ r ≡ rowsOf g ⌝ }
+// The account of these rows and of the numbers beside them.
+pub(crate) fn account_of(rows: [[u64; 3]; 9], beside: Beside) -> Account
+    ensures { λ r. ⌜ r ≡ held beside (flatOf rows) ⌝ }
 {
-    [
-        [g[0], g[1], g[2]],
-        [g[3], g[4], g[5]],
-        [g[6], g[7], g[8]],
-        [g[9], g[10], g[11]],
-        [g[12], g[13], g[14]],
-        [g[15], g[16], g[17]],
-        [g[18], g[19], g[20]],
-        [g[21], g[22], g[23]],
-        [g[24], g[25], g[26]],
-    ]
-}
-
-fn flat_of(r: [[u64; 3]; 9]) -> [u64; 27]
-    ensures { λ g. ⌜ g ≡ flatOf r ⌝ }
-{
-    [
-        r[0][0],
-        r[0][1],
-        r[0][2],
-        r[1][0],
-        r[1][1],
-        r[1][2],
-        r[2][0],
-        r[2][1],
-        r[2][2],
-        r[3][0],
-        r[3][1],
-        r[3][2],
-        r[4][0],
-        r[4][1],
-        r[4][2],
-        r[5][0],
-        r[5][1],
-        r[5][2],
-        r[6][0],
-        r[6][1],
-        r[6][2],
-        r[7][0],
-        r[7][1],
-        r[7][2],
-        r[8][0],
-        r[8][1],
-        r[8][2],
-    ]
+    Account {
+        maximum: beside.maximum,
+        grid: state::flat_of(rows),
+        open_fragments: beside.open_fragments,
+        open_bytes: beside.open_bytes,
+        taken: beside.taken,
+        refused: beside.refused,
+        total: beside.total,
+    }
 }

@@ -2,65 +2,39 @@
 // receive settings and the account.
 mod command;
 mod counting;
+mod records;
 
 use command::Class;
-use counting::Before;
+use counting::Beside;
 use counting::Effect;
 use counting::Left;
+use outcome::Cause;
+use outcome::Outcome;
+pub use records::Stopped;
+pub use records::replay;
 use settings::Enabled;
 use state::Account;
-ghost use mathlib.Core.Bool.{true};
 ghost use mathlib.Core.Path.{_≡_};
-ghost use Prim.Native.Nat.{_≤_, _<_};
+ghost use Prim.Native.Nat.{_≤_};
 ghost use lib.ListN.{length};
 ghost use Rattle.settings.specs.Enable.{answered};
-ghost use Rattle.settings.specs.Record.{sound as settingsSound};
 ghost use Rattle.state.specs.declared.Account.{Account};
-ghost use Rattle.state.specs.Account.{limit, maxMaximum};
-ghost use Rattle.state.specs.Sound.{sound};
+ghost use Rattle.state.specs.Account.{maxMaximum};
+ghost use Rattle.state.specs.Grid.{flatOf, rowsOf};
 ghost use Rattle.translator.specs.Command.{commands, classIn};
-ghost use Rattle.translator.specs.Effect.{Fits, JudgesAs, Within, beforeOf, begun as Effect·begun, holding, made};
-ghost use Rattle.translator.specs.Outcome.{causeNumber, numberOf, sentLengthOf};
-ghost use Rattle.translator.specs.Transact.{stored, done, badLength, sequenceOf, isTaken, byClass, transacted};
+ghost use Rattle.translator.specs.Effect.{Fits, JudgesAs, JudgesReady, Within, besideOf, begun as Effect·begun, held, holding, made};
+ghost use Rattle.translator.specs.Transact.{stored, done, badLength, sequenceOf, isTaken, byClass, readinessOf, transacted};
 ghost use Rattle.translator.specs.Transact.{enable as Transact·enable, fragment as Transact·fragment, joined as Transact·joined, lastJudged, unknown as Transact·unknown};
-
-// Why a fragment or its packet was not sent.
-pub enum Cause {
-    // 2: not First, and no packet is open.
-    Aborted,
-    // 3: no bytes, or more than the maximum.
-    BadLength,
-    // 4: a packet of more than 1536 bytes.
-    Over,
-    // 5: a packet of fewer than 17 bytes.
-    Short,
-    // 6: the link was down at the Last.
-    LinkDown,
-}
-
-// What a transaction was answered.
-pub enum Outcome {
-    // 0: a fragment taken, whose packet stays open.
-    Taken,
-    // 1: a packet sent, with its sent length.
-    Sent(u64),
-    // 2 to 6
-    Discarded(Cause),
-    // 7: an unknown command.
-    Unknown,
-    // 8 to 11: a Receive Enable.
-    Enable(Enabled),
-    // 12: the store or the record is too short.
-    NoRoom,
-    // 13: the account or the record is not sound.
-    NotSound,
-    // 14: the account is full.
-    Full,
-}
 
 pub struct Transacted {
     pub account: Account,
     pub outcome: Outcome,
+}
+
+// Whether an account and its buffers can be used, or the outcome that says why not.
+enum Readiness {
+    Ready,
+    Refused(Outcome),
 }
 
 // What a transaction does to the account, and what it is answered.
@@ -90,118 +64,152 @@ pub fn transact(
 ) -> Transacted
     ensures { λ r. ⌜ done r (now (store .exit)) (now (settings .exit)) ≡ transacted account (now (store .entry)) (now (settings .entry)) command (now (bytes .entry)) «link_up» ⌝ }
 {
-    if (store.len() as u64) < packet::MAX_PACKET {
-        return Transacted {
-            account,
-            outcome: Outcome::NoRoom,
-        };
-    }
-    if settings.len() < settings::SIZE {
-        return Transacted {
-            account,
-            outcome: Outcome::NoRoom,
-        };
-    }
-    if !state::is_sound(account) {
-        return Transacted {
-            account,
-            outcome: Outcome::NotSound,
-        };
-    }
-    if !settings::is_sound(settings) {
-        return Transacted {
-            account,
-            outcome: Outcome::NotSound,
-        };
-    }
-    if account.total == state::LIMIT {
-        return Transacted {
-            account,
-            outcome: Outcome::Full,
-        };
-    }
-    step(account, store, settings, command, bytes, link_up)
+    let grid = account.grid;
+    transact_rows(
+        state::rows_of(grid),
+        counting::beside_of(account),
+        store,
+        settings,
+        command,
+        bytes,
+        link_up,
+    )
 }
 
-// A transaction on an account that is sound and not full, and on a sound record.
-fn step(
-    account: Account,
+// A transaction on an account whose grid is held in rows: tested, counted and handed back in one
+// place, so that the compiler moves the grid twice and no more.
+fn transact_rows(
+    rows: [[u64; 3]; 9],
+    beside: Beside,
     store: &mut [u8],
     settings: &mut [u8],
     command: u8,
     bytes: &[u8],
     link_up: bool,
 ) -> Transacted
-    requires { ⌜ (sound account ≡ true) × (account .total < limit) × (settingsSound (now settings) ≡ true) ⌝ }
-    ensures { λ r. ⌜ done r (now (store .exit)) (now (settings .exit)) ≡ byClass (classIn commands command) command (now (bytes .entry)) «link_up» account (now (store .entry)) (now (settings .entry)) ⌝ }
+    requires { ⌜ rows ≡ rowsOf (flatOf rows) ⌝ }
+    ensures { λ r. ⌜ done r (now (store .exit)) (now (settings .exit)) ≡ transacted (held beside (flatOf rows)) (now (store .entry)) (now (settings .entry)) command (now (bytes .entry)) «link_up» ⌝ }
 {
-    let before = Before {
-        maximum: account.maximum,
-        open_fragments: account.open_fragments,
-        open_bytes: account.open_bytes,
-    };
-    let judged = judge(before, store, settings, command, bytes, link_up);
+    let mut rows = rows;
+    let readiness = readiness_of(&rows, beside, store, settings);
+    let judged = judge_ready(readiness, beside, store, settings, command, bytes, link_up);
     let effect = judged.effect;
     let outcome = judged.outcome;
+    counting::count(&mut rows, beside, effect);
     Transacted {
-        account: counting::applied(account, effect),
+        account: counting::account_of(rows, counting::beside_after(beside, effect)),
         outcome,
     }
 }
 
-// What a transaction does and is answered, of which nothing in the account is changed yet.
-fn judge(
-    before: Before,
+fn readiness_of(rows: &[[u64; 3]; 9], beside: Beside, store: &[u8], settings: &[u8]) -> Readiness
+    ensures { λ r. ⌜ r ≡ readinessOf (held beside (flatOf (now (rows .entry)))) (now (store .entry)) (now (settings .entry)) ⌝ }
+{
+    if (store.len() as u64) < packet::MAX_PACKET {
+        return Readiness::Refused(Outcome::NoRoom);
+    }
+    if settings.len() < settings::SIZE {
+        return Readiness::Refused(Outcome::NoRoom);
+    }
+    if !state::are_sound(
+        rows,
+        beside.maximum,
+        beside.open_fragments,
+        beside.open_bytes,
+        beside.taken,
+        beside.refused,
+        beside.total,
+    ) {
+        return Readiness::Refused(Outcome::NotSound);
+    }
+    if !settings::is_sound(settings) {
+        return Readiness::Refused(Outcome::NotSound);
+    }
+    Readiness::Ready
+}
+
+// What a transaction does and is answered, where it is known whether the account and the buffers can
+// be used.
+fn judge_ready(
+    readiness: Readiness,
+    beside: Beside,
     store: &mut [u8],
     settings: &mut [u8],
     command: u8,
     bytes: &[u8],
     link_up: bool,
 ) -> Judged
-    requires { ⌜ Fits before ⌝ }
-    ensures { λ r. ⌜ ((a : Account) → done (made r (holding before a)) (now (store .exit)) (now (settings .exit)) ≡ byClass (classIn commands command) command (now (bytes .entry)) «link_up» (holding before a) (now (store .entry)) (now (settings .entry))) ⌝ }
+    requires { ⌜ (readiness ≡ Readiness.Ready → Fits beside) ⌝ }
+    ensures { λ r. ⌜ JudgesReady readiness beside r (now (store .entry)) (now (settings .entry)) command (now (bytes .entry)) «link_up» (now (store .exit)) (now (settings .exit)) ⌝ }
+{
+    if let Readiness::Refused(outcome) = readiness {
+        return Judged {
+            effect: counting::nothing(beside),
+            outcome,
+        };
+    }
+    if beside.total == state::LIMIT {
+        return Judged {
+            effect: counting::nothing(beside),
+            outcome: Outcome::Full,
+        };
+    }
+    judge(beside, store, settings, command, bytes, link_up)
+}
+
+// What a counted transaction does and is answered; nothing in the account is changed yet.
+fn judge(
+    beside: Beside,
+    store: &mut [u8],
+    settings: &mut [u8],
+    command: u8,
+    bytes: &[u8],
+    link_up: bool,
+) -> Judged
+    requires { ⌜ Fits beside ⌝ }
+    ensures { λ r. ⌜ ((a : Account) → done (made r (holding beside a)) (now (store .exit)) (now (settings .exit)) ≡ byClass (classIn commands command) command (now (bytes .entry)) «link_up» (holding beside a) (now (store .entry)) (now (settings .entry))) ⌝ }
 {
     match command::class_of(command) {
-        Class::First => fragment(before, store, bytes, true, false, link_up),
-        Class::Middle => fragment(before, store, bytes, false, false, link_up),
-        Class::Last => fragment(before, store, bytes, false, true, link_up),
-        Class::Whole => fragment(before, store, bytes, true, true, link_up),
+        Class::First => fragment(beside, store, bytes, true, false, link_up),
+        Class::Middle => fragment(beside, store, bytes, false, false, link_up),
+        Class::Last => fragment(beside, store, bytes, false, true, link_up),
+        Class::Whole => fragment(beside, store, bytes, true, true, link_up),
         Class::Enable => enable(settings, bytes),
-        Class::Unknown => unknown(before, command),
+        Class::Unknown => unknown(beside, command),
     }
 }
 
 fn fragment(
-    before: Before,
+    beside: Beside,
     store: &mut [u8],
     bytes: &[u8],
     first: bool,
     last: bool,
     link_up: bool,
 ) -> Judged
-    requires { ⌜ Fits before ⌝ }
-    ensures { λ r. ⌜ ((a : Account) → stored (made r (holding before a)) (now (store .exit)) ≡ Transact·fragment (now (bytes .entry)) first last «link_up» (holding before a) (now (store .entry))) ⌝ }
+    requires { ⌜ Fits beside ⌝ }
+    ensures { λ r. ⌜ ((a : Account) → stored (made r (holding beside a)) (now (store .exit)) ≡ Transact·fragment (now (bytes .entry)) first last «link_up» (holding beside a) (now (store .entry))) ⌝ }
 {
     let size = bytes.len() as u64;
     if size < 1 {
         return bad_length();
     }
-    if before.maximum < size {
+    if beside.maximum < size {
         return bad_length();
     }
-    let sequence = sequence_of(first, before.open_fragments, before.open_bytes);
+    let sequence = sequence_of(first, beside.open_fragments, beside.open_bytes);
     let Sequence::Joins(at) = sequence else {
         return Judged {
-            effect: counting::single(counting::kept(before), state::ABORTED, size),
+            effect: counting::single(counting::kept(beside), state::ABORTED, size),
             outcome: Outcome::Discarded(Cause::Aborted),
         };
     };
-    joined(begun(first, before), store, at, bytes, last, link_up)
+    joined(begun(first, beside), store, at, bytes, last, link_up)
 }
 
 // A fragment of a bad length breaks the open packet.
 fn bad_length() -> Judged
-    ensures { λ r. ⌜ ((a : Account) → Fits (beforeOf a) → made r a ≡ badLength a) ⌝ }
+    ensures { λ r. ⌜ ((a : Account) → Fits (besideOf a) → made r a ≡ badLength a) ⌝ }
 {
     Judged {
         effect: counting::single(counting::ended(state::BROKEN), state::BADLENGTH, 0),
@@ -222,13 +230,13 @@ fn sequence_of(first: bool, open_fragments: u64, open_bytes: u64) -> Sequence
 }
 
 // A First supersedes the open packet.
-fn begun(first: bool, before: Before) -> Left
-    ensures { λ r. ⌜ r ≡ Effect·begun first before ⌝ }
+fn begun(first: bool, beside: Beside) -> Left
+    ensures { λ r. ⌜ r ≡ Effect·begun first beside ⌝ }
 {
     if first {
         return counting::ended(state::SUPERSEDED);
     }
-    counting::kept(before)
+    counting::kept(beside)
 }
 
 // A fragment is written behind the first `at` bytes, and counted to the open packet.
@@ -280,7 +288,7 @@ fn last_judged(left: Left, store: &mut [u8], size: u64, link_up: bool) -> Judged
 
 // A Receive Enable flushes the open packet, whatever it is answered.
 fn enable(settings: &mut [u8], bytes: &[u8]) -> Judged
-    ensures { λ r. ⌜ ((a : Account) → Fits (beforeOf a) → answered (made r a) (now (settings .exit)) ≡ Transact·enable (now (bytes .entry)) a (now (settings .entry))) ⌝ }
+    ensures { λ r. ⌜ ((a : Account) → Fits (besideOf a) → answered (made r a) (now (settings .exit)) ≡ Transact·enable (now (bytes .entry)) a (now (settings .entry))) ⌝ }
 {
     let enabled = settings::receive_enable(settings, bytes);
     Judged {
@@ -303,9 +311,9 @@ fn is_taken(enabled: Enabled) -> bool
 }
 
 // An unknown command flushes the open packet where F and L are both set.
-fn unknown(before: Before, command: u8) -> Judged
-    requires { ⌜ Fits before ⌝ }
-    ensures { λ r. ⌜ ((a : Account) → made r (holding before a) ≡ Transact·unknown command (holding before a)) ⌝ }
+fn unknown(beside: Beside, command: u8) -> Judged
+    requires { ⌜ Fits beside ⌝ }
+    ensures { λ r. ⌜ ((a : Account) → made r (holding beside a) ≡ Transact·unknown command (holding beside a)) ⌝ }
 {
     if command::has_both_flags(command) {
         return Judged {
@@ -314,51 +322,7 @@ fn unknown(before: Before, command: u8) -> Judged
         };
     }
     Judged {
-        effect: counting::commanded(counting::kept(before), false),
+        effect: counting::commanded(counting::kept(beside), false),
         outcome: Outcome::Unknown,
-    }
-}
-
-// The answer number.
-pub fn number(outcome: Outcome) -> u32
-    ensures { λ r. ⌜ r ≡ numberOf outcome ⌝ }
-{
-    match outcome {
-        Outcome::Taken => 0,
-        Outcome::Sent(_) => 1,
-        Outcome::Discarded(cause) => cause_number(cause),
-        Outcome::Unknown => 7,
-        Outcome::Enable(enabled) => settings::number(enabled),
-        Outcome::NoRoom => 12,
-        Outcome::NotSound => 13,
-        Outcome::Full => 14,
-    }
-}
-
-fn cause_number(cause: Cause) -> u32
-    ensures { λ r. ⌜ r ≡ causeNumber cause ⌝ }
-{
-    match cause {
-        Cause::Aborted => 2,
-        Cause::BadLength => 3,
-        Cause::Over => 4,
-        Cause::Short => 5,
-        Cause::LinkDown => 6,
-    }
-}
-
-// The sent length of a packet that was sent, else 0.
-pub fn sent_length(outcome: Outcome) -> u64
-    ensures { λ r. ⌜ r ≡ sentLengthOf outcome ⌝ }
-{
-    match outcome {
-        Outcome::Taken => 0,
-        Outcome::Sent(length) => length,
-        Outcome::Discarded(_) => 0,
-        Outcome::Unknown => 0,
-        Outcome::Enable(_) => 0,
-        Outcome::NoRoom => 0,
-        Outcome::NotSound => 0,
-        Outcome::Full => 0,
     }
 }

@@ -13,11 +13,11 @@ use Rattle.state.specs.Account.{allFragments, made}
 use Rattle.state.specs.Sound as account
 use Rattle.translator.specs.Command.{classIn}
 use Rattle.translator.specs.Counting.{addTo, ended, single, grown, finished, commanded}
-use Rattle.translator.specs.Transact.{sequenceOf, badLength, begun, lastJudged, joined, bySequence, fragment, enable, byClass, transacted}
+use Rattle.translator.specs.Transact.{sequenceOf, badLength, begun, lastJudged, joined, bySequence, fragment, enable, byClass, readinessOf, byReadiness, transacted}
 use Rattle.worked.specs.Cases.{runFrom, cellsIn, Worked}
 
 pub worked : Worked
-unfolding runFrom cellsIn transacted byClass fragment bySequence joined lastJudged begun badLength sequenceOf enable classIn
+unfolding runFrom cellsIn transacted readinessOf byReadiness byClass fragment bySequence joined lastJudged begun badLength sequenceOf enable classIn
     addTo ended single grown finished commanded account.countsSound account.rowSound account.rowsSound account.singlesSound account.sumHolds account.sound allFragments made
     appended filled sentLength put receiveEnabled freshened settings-record.allowed settings-record.withSettings settings-record.hasItsMac settings-record.sound
     decided reason parameterReason negotiatedReason forcedReason anyFits fits takes

@@ -9,13 +9,13 @@ use Rattle.prelude.specs.Choice.{if_then_else_}
 use Rattle.setlink.specs.declared.Decision.{Decision}
 use Rattle.setlink.specs.declared.Media.{Media}
 use Rattle.setlink.specs.declared.Media.the-variants.{Copper, Fibre}
-use Rattle.setlink.specs.Decide.{decided}
+use Rattle.setlink.specs.Decide.{decided, freshWord}
 use Rattle.status.specs.declared.Fields.{Fields}
 use Rattle.status.specs.Block.{written}
 use Rattle.settings.specs.Enable.{freshened}
 use Rattle.state.specs.declared.Account.{Account}
 use Rattle.state.specs.Account.{sent, superseded, flushed, broken, over, short, linkdown, aborted, badlength, made}
-use Rattle.translator.specs.Outcome.{numberOf, sentLengthOf}
+use Rattle.outcome.specs.Outcome.{numberOf, sentLengthOf}
 use Rattle.translator.specs.Transact.{Done, transacted}
 
 -- a command with so many bytes of data, while the link is up or down
@@ -85,7 +85,7 @@ counting lines refusals total =
 
 -- Set Link where 0 is in force and no host driver is present
 abbrev pub setLink : ℕ → Media → Decision
-setLink word media = decided 0 word false media
+setLink word media = decided freshWord word false media
 
 abbrev pub accepted : ℕ → Decision
 accepted word = record { response = 0x0000; reason = 0x0000; «in_force» = word }

@@ -1,4 +1,7 @@
-/* Where the fields of each struct lie: the same numbers as in ../second/interface.rs. */
+/*
+ * Where the fields of each struct lie: the same numbers as in ../second/interface.rs. Then the numbers
+ * of the interface: answers and rows are document 01's, in its order.
+ */
 #include "tco.h"
 
 #define SIZE(type, size) _Static_assert(sizeof(type) == (size), #type)
@@ -46,3 +49,46 @@ SIZE(tco_link, 8);
 AT(tco_link, response, 0);
 AT(tco_link, reason, 2);
 AT(tco_link, in_force, 4);
+
+#define IS(name, number) _Static_assert((name) == (number), #name)
+
+IS(TCO_TAKEN, 0);
+IS(TCO_SENT, 1);
+IS(TCO_ABORTED, 2);
+IS(TCO_BAD_LENGTH, 3);
+IS(TCO_OVER, 4);
+IS(TCO_SHORT, 5);
+IS(TCO_LINK_DOWN, 6);
+IS(TCO_UNKNOWN, 7);
+IS(TCO_ENABLE_LENGTH, 8);
+IS(TCO_ENABLE_CONTROL, 9);
+IS(TCO_ENABLE_NO_MAC, 10);
+IS(TCO_ENABLED, 11);
+IS(TCO_NO_ROOM, 12);
+IS(TCO_NOT_SOUND, 13);
+IS(TCO_FULL, 14);
+IS(TCO_BAD_STATUS, 15);
+IS(TCO_BAD_MAXIMUM, 16);
+
+IS(TCO_ROW_SENT, 0);
+IS(TCO_ROW_SUPERSEDED, 1);
+IS(TCO_ROW_FLUSHED, 2);
+IS(TCO_ROW_BROKEN, 3);
+IS(TCO_ROW_OVER, 4);
+IS(TCO_ROW_SHORT, 5);
+IS(TCO_ROW_LINK_DOWN, 6);
+IS(TCO_ROW_ABORTED, 7);
+IS(TCO_ROW_BAD_LENGTH, 8);
+IS(TCO_COLUMNS, 3);
+
+IS(TCO_STORE_SIZE, 1536);
+IS(TCO_SETTINGS_SIZE, 15);
+IS(TCO_FLASH_SIZE, 10);
+IS(TCO_STATUS_SIZE, 8);
+
+IS(TCO_NOWHERE, 0);
+IS(TCO_SETTINGS, 1);
+IS(TCO_FLASH, 2);
+
+IS(TCO_COPPER, 0);
+IS(TCO_FIBRE, 1);

@@ -234,7 +234,8 @@ static void set_link(struct state *state)
     struct source *source = state->source;
     uint32_t word = draw_word(source);
     bool host_present = one_in(source, 8);
-    uint32_t media = (uint32_t)PICK(source, 0, 0, 0, 1, 1, 1, 2, 256, UINT32_MAX);
+    uint32_t media = (uint32_t)PICK(source, TCO_COPPER, TCO_COPPER, TCO_COPPER, TCO_FIBRE, TCO_FIBRE, TCO_FIBRE, 2,
+                                    256, UINT32_MAX);
     tco_link got = tco_set_link(state->in_force, word, host_present, media);
     tco_link wanted = second_set_link(state->in_force, word, host_present, media);
     same(state, "response", got.response, wanted.response);

@@ -1,38 +1,40 @@
-use Prim.Native.Nat.{_-_, _≤_}
-use mathlib.Core.Path.{_∙_, ap}
+use Prim.Native.Nat.{_-_}
+use mathlib.Core.Path.{_≡_, refl, sym, _∙_}
 use native.Mathlib.Omega.{arith}
 use borrow.Author.Needs.{needs}
-use denote.Ref.{now}
-use Rattle.prelude.specs.Parts.{part, put}
-use Rattle.prelude.proofs.Lists.{copied-into-tail}
-use Rattle.prelude.proofs.Tests.{tests}
-use Rattle.packet.proofs.Zeros.{zeros, zeros-from, length-zeros-from}
-use Rattle.packet.specs.Store.{minSent, filled}
+use lib.ListN.{length}
+use Rattle.packet.proofs.Zeros.{filledFrom, filled-on, filled-past, filled-from-total, filled-short}
+use Rattle.packet.specs.Store.{minSent}
 use Rattle.packet.proofs.fill.Statement.{statement}
 use Rattle.packet.proofs.fill.Tie as tie
 
-returns-3 : tie.Need-returns-3
-unfolding filled
-returns-3 c =
-    let copies : _ = c .before .before in
-    let args : _ = copies .before .before .before .before .before .before .before .args in
-    let few : args .total ≤ minSent = omega arith in
-    copied-into-tail (now (args .store)) (part (args .total) (minSent - args .total) (zeros minSent)) _ (args .total) (omega (arith, length-zeros-from minSent (args .total) few)) (copies .copy .ensures .1)
-    ∙ (ap (put (now (args .store)) (args .total)) (zeros-from minSent (args .total) few) ∙ search tests)
+abbrev Inv-loop : tie.InvT-loop
+Inv-loop store₀ total at₀ store at = (length store ≡ length store₀) × (filledFrom at store ≡ filledFrom at₀ store₀)
+
+abbrev μ-loop : tie.MeasureT-loop
+μ-loop store₀ total at₀ store at = minSent - at
+
+loop-again : tie.Need-loop-again Inv-loop μ-loop
+loop-again c =
+    let loop : _ = c .before .loop in
+    (search needs, filled-on (loop .store) (loop .at) (c .loop-test .taken) (omega arith) ∙ loop .inv .1)
+
+returns-2 : tie.Need-returns-2 Inv-loop μ-loop
+returns-2 c =
+    let loop : _ = c .before .loop in
+    sym (filled-past (loop .store) (loop .at) (omega arith)) ∙ (loop .inv .1 ∙ filled-from-total _ _ (omega arith))
 
 pub fill-spec : {M : Type 1} → statement M
-unfolding filled
 fill-spec =
     tie.close
     (tie.spec
-    (λ c. search tests)
-    (λ c. search tests)
+    Inv-loop
+    μ-loop
+    (λ c. sym (filled-short _ _ (c .if1 .taken)))
+    (λ c. (refl, refl))
     (search needs)
     (search needs)
     (search needs)
+    loop-again
     (search needs)
-    (search needs)
-    (search needs)
-    (search needs)
-    (search needs)
-    returns-3)
+    returns-2)

@@ -1,20 +1,22 @@
-use Prim.Native.Nat.{_≤_, _-_, _+_}
+use Prim.Native.Nat.{_≤_, _<_, _-_, _+_}
 use mathlib.Core.Bool.{true}
 use mathlib.Core.Path.{_≡_, refl, sym, _∙_}
 use native.Mathlib.Omega.{arith}
 use borrow.Author.Tests.{not-true, not-false}
 use Rattle.prelude.proofs.Tests.{tests, if-true, if-false}
-use Rattle.state.proofs.Grid.{and-false, row-unsound, rows-sound-next, all-fragments-next, all-taken, sum-fails, sum-fails-at, sum-is-left}
-use Rattle.state.specs.Account.{rows, allFragments}
-use Rattle.state.specs.Sound.{rowsSound}
+use Rattle.state.proofs.Grid.{rowSoundAt, and-false, row-unsound, rows-sound-next, all-fragments-next, empty-row-sound, too-many, last-is-left}
+use Rattle.state.proofs.Rows.{cell-flat, row-sound-flat}
+use Rattle.state.specs.Account.{rows, badlength, allFragments}
+use Rattle.state.specs.Grid.{flatOf}
+use Rattle.state.specs.Sound.{rowsSound, singlesSound}
 use Rattle.state.proofs.are_rows_sound.Statement.{statement}
 use Rattle.state.proofs.are_rows_sound.Tie as tie
 
 abbrev Inv-loop : tie.InvT-loop
-Inv-loop open-fragments taken refused total grid left₀ row₀ left row = (row ≤ rows) × (rowsSound row grid ≡ true) × (left + allFragments row grid ≡ total)
+Inv-loop r wanted left₀ row₀ left row = (row ≤ badlength) × (rowsSound row (flatOf r) ≡ true) × (left + allFragments row (flatOf r) ≡ wanted)
 
 abbrev μ-loop : tie.MeasureT-loop
-μ-loop open-fragments taken refused total grid left₀ row₀ left row = rows - row
+μ-loop r wanted left₀ row₀ left row = badlength - row
 
 loop-holds : tie.Need-loop-holds Inv-loop μ-loop
 unfolding rowsSound allFragments
@@ -22,54 +24,58 @@ loop-holds c = (search tests, refl, omega arith)
 
 returns : tie.Need-returns Inv-loop μ-loop
 returns c =
-    let args : _ = c .before .before .before .args in
-    let loop : _ = c .before .before .loop in
-    sym (and-false _ _ (sum-fails-at (args .t1) (args .open-fragments) (args .taken) (args .refused) (args .total) (loop .row) (loop .left) (c .before .loop-test .taken) (loop .inv .2) (c .if1 .taken)))
+    let at : _ = c .before .before .before in
+    let l : at .loop .row < rows = omega arith in
+    sym (and-false _ _ (and-false _ _ (too-many _ _ (at .loop .row) (at .loop .left) (at .loop .inv .2) l (rw (cell-flat _ _ l .1) (c .if1 .taken)))))
 
-is-row-sound-requires : tie.Need-is-row-sound-requires Inv-loop μ-loop
-is-row-sound-requires c κs = search tests
+-- the call tests the row that the loop is at
+tests-row : (c : tie.After-is-row-sound Inv-loop μ-loop) →
+    let at : _ = c .before .before .before .before in
+    rowSoundAt (at .loop .row) (flatOf (at .before .args .rows .now)) ≡ c .is-row-sound .result
+tests-row c =
+    let at : _ = c .before .before .before .before in
+    row-sound-flat (at .before .args .rows .now) (at .loop .row) (omega arith) ∙ sym (c .is-row-sound .ensures)
 
 returns-2 : tie.Need-returns-2 Inv-loop μ-loop
 returns-2 c =
-    let tests-row : _ = c .before in
-    sym (if-false _ _ _ (row-unsound rows (tests-row .before .before .before .loop .row) _ (tests-row .before .before .loop-test .taken) (sym (tests-row .is-row-sound .ensures) ∙ not-true _ (c .if2 .taken))))
+    let at : _ = c .before .before .before .before .before in
+    sym (if-false _ _ _ (row-unsound rows (at .loop .row) _ (omega arith) (tests-row (c .before) ∙ not-true _ (c .if2 .taken))))
 
 loop-again : tie.Need-loop-again Inv-loop μ-loop
 loop-again c =
-    let tests-row : _ = c .before in
-    let loops : _ = tests-row .before .before .before in
-    (search tests, rows-sound-next (loops .loop .row) _ (loops .loop .inv .1) (sym (tests-row .is-row-sound .ensures) ∙ not-false _ (c .if2 .left)), omega (arith, all-fragments-next (loops .loop .row) (loops .before .args .t1)))
-
--- past the loop, every row is sound, and the fragments of all rows have been taken from the total
-all-are-sound : (c : tie.After-loop Inv-loop μ-loop) → rowsSound rows (c .before .before .args .t1) ≡ true
-all-are-sound c = let e : c .before .loop .row ≡ rows = omega arith in rw e at (c .before .loop .inv .1)
-
-all-are-taken : (c : tie.After-loop Inv-loop μ-loop) →
-    let args : _ = c .before .before .args in
-    c .before .loop .left + allFragments rows (args .t1) ≡ args .total
-all-are-taken c =
-    let args : _ = c .before .before .args in
-    let loop : _ = c .before .loop in
-    all-taken (args .t1) 0 0 0 (args .total) (loop .row) (loop .left) (omega arith) (loop .inv .2)
+    let at : _ = c .before .before .before .before .before in
+    let row : _ = at .loop .row in
+    let r : _ = at .before .args .rows .now in
+    (search tests, rows-sound-next row _ (at .loop .inv .1) (tests-row (c .before) ∙ not-false _ (c .if2 .left)), omega (arith, cell-flat r row (omega arith) .1, all-fragments-next row (flatOf r)))
 
 returns-3 : tie.Need-returns-3 Inv-loop μ-loop
-returns-3 c =
-    let args : _ = c .before .before .before .args in
-    let l : _ = all-are-taken (c .before) in
-    sym (and-false _ _ (sum-fails (args .t1) (args .open-fragments) (args .taken) (args .refused) (args .total) (λ s. omega arith)))
+unfolding singlesSound
+returns-3 c = sym (and-false _ _ (if-false _ _ _ (search tests)))
 
 returns-4 : tie.Need-returns-4 Inv-loop μ-loop
-returns-4 c =
-    let args : _ = c .before .before .before .before .args in
-    let l : _ = all-are-taken (c .before .before) in
-    sym (and-false _ _ (sum-fails (args .t1) (args .open-fragments) (args .taken) (args .refused) (args .total) (λ s. omega arith)))
+unfolding singlesSound
+returns-4 c = sym (and-false _ _ (if-false _ _ _ (search tests)))
 
 returns-5 : tie.Need-returns-5 Inv-loop μ-loop
-returns-5 c =
-    let after : _ = c .before .before in
-    let args : _ = after .before .before .args in
-    let l : _ = all-are-taken after in
-    sum-is-left (args .t1) (args .open-fragments) (args .taken) (args .refused) (args .total) (after .before .loop .left) l (omega arith) ∙ sym (if-true _ _ _ (all-are-sound after))
+unfolding singlesSound
+returns-5 c = sym (and-false _ _ (if-false _ _ _ (search tests)))
+
+-- past the tests of the last row
+all-are-sound : (c : tie.Else5 Inv-loop μ-loop) → rowsSound rows (flatOf (c .before .before .before .before .before .before .before .before .args .rows .now)) ≡ true
+all-are-sound c =
+    let at : _ = c .before .before .before .before .before .before .before in
+    let e : at .loop .row ≡ badlength = omega arith in
+    rows-sound-next badlength _ (rw e at (at .loop .inv .1)) (empty-row-sound _ _ _ (c .before .before .if4 .left) (c .if5 .left))
+
+singles-are-sound : (c : tie.Else5 Inv-loop μ-loop) → singlesSound (flatOf (c .before .before .before .before .before .before .before .before .args .rows .now)) ≡ true
+unfolding singlesSound
+singles-are-sound c = search tests
+
+returns-6 : tie.Need-returns-6 Inv-loop μ-loop
+returns-6 c =
+    let at : _ = c .before .before .before .before .before .before .before .before in
+    last-is-left _ _ (at .loop .row) (at .loop .left) (at .loop .inv .2) (omega arith)
+    ∙ sym (if-true _ _ _ (all-are-sound (c .before)) ∙ if-true _ _ _ (singles-are-sound (c .before)))
 
 pub are-rows-sound-spec : {M : Type 1} → statement M
 are-rows-sound-spec =
@@ -81,18 +87,23 @@ are-rows-sound-spec =
     (λ c. search tests)
     (λ c. search tests)
     (λ c. search tests)
-    (λ c. search tests)
     returns
     (λ c. search tests)
     (λ c. search tests)
-    (λ c. search tests)
-    (λ c. search tests)
-    (λ c. search tests)
-    is-row-sound-requires
+    (λ c κs. search tests)
     returns-2
     (λ c. search tests)
     (λ c. search tests)
     loop-again
+    (λ c. search tests)
+    (λ c. search tests)
     returns-3
+    (λ c. search tests)
+    (λ c. search tests)
     returns-4
-    returns-5)
+    (λ c. search tests)
+    (λ c. search tests)
+    returns-5
+    (λ c. search tests)
+    (λ c. search tests)
+    returns-6)

@@ -13,18 +13,18 @@ returns : tie.Need-returns
 unfolding fragment
 returns c a =
     let entry : _ = c .before .before .before .before in
-    rw (c .bad-length .ensures (holding (entry .args .before) a) (entry .pre)) (search tests)
+    rw (c .bad-length .ensures (holding (entry .args .beside) a) (entry .pre)) (search tests)
 
 returns-2 : tie.Need-returns-2
 unfolding fragment
 returns-2 c a =
     let entry : _ = c .before .before .before .before .before .before in
-    rw (c .bad-length2 .ensures (holding (entry .args .before) a) (entry .pre)) (search tests)
+    rw (c .bad-length2 .ensures (holding (entry .args .beside) a) (entry .pre)) (search tests)
 
 -- past the two tests of its length, the sequence rule decides
 in-sequence : (c : tie.After-sequence-of) (a : Account) →
     let args : _ = c .before .before .before .before .before .before .args in
-    let account : Account = holding (args .before) a in
+    let account : Account = holding (args .beside) a in
     fragment (now (args .bytes)) (args .first) (args .last) (args .link-up) account (now (args .store))
     ≡ bySequence (c .sequence-of .result) (now (args .bytes)) (args .first) (args .last) (args .link-up) account (now (args .store))
 unfolding fragment

@@ -39,14 +39,14 @@ returns-5 c a =
     let calls : _ = c .before .before in
     let told : _ = calls .before .before in
     let entry : _ = told .before .before .before .before .before .before in
-    rw (sym (told .before .before .class-of .ensures) ∙ told .enum-told5 .given .1, ← calls .enable .ensures (holding (entry .args .before) a) (entry .pre))
+    rw (sym (told .before .before .class-of .ensures) ∙ told .enum-told5 .given .1, ← calls .enable .ensures (holding (entry .args .beside) a) (entry .pre))
 
 returns-6 : tie.Need-returns-6
 unfolding byClass
 returns-6 c a =
     let told : _ = c .before in
     let entry : _ = told .before .before .before .before .before .before in
-    rw (sym (told .before .before .class-of .ensures) ∙ told .enum-told6 .given .1, c .unknown .ensures (holding (entry .args .before) a))
+    rw (sym (told .before .before .class-of .ensures) ∙ told .enum-told6 .given .1, c .unknown .ensures (holding (entry .args .beside) a))
 
 pub judge-spec : {M : Type 1} → statement M
 judge-spec =

@@ -46,7 +46,7 @@ feed-header-spec =
     (search needs)
     (search needs)
     (search needs)
-    (λ c κs. header (c .before .before .before .before .before) .long)
+    (search needs)
     returns
     returns-2
     (search needs)
