@@ -1,1 +1,4 @@
+pub mod Fronts
 pub mod Moving
+pub mod Sessions
+pub mod Unique

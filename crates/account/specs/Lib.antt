@@ -1,1 +1,3 @@
-pub mod Kept
+pub mod Buffer
+pub mod Piece
+pub mod Properties

@@ -1,4 +1,4 @@
--- The addresses in force: where each comes from, and the part that is shown (document 01, Receive settings).
+-- The addresses in force: where each comes from, and the part that is shown (manual 5.8, 5.9).
 use Prim.Native.Nat.{ℕ}
 use mathlib.Core.Bool.{Bool}
 use mathlib.Core.List.{List}
@@ -7,44 +7,46 @@ use lib.ListN.{length}
 use denote.Ref.{RefT, now}
 use Rattle.prelude.specs.Choice.{if_then_else_}
 use Rattle.prelude.specs.Parts.{Slice, partOf}
-use Rattle.settings.specs.Record.{Settings, settingsIn, sound, hasDedicatedMac, macAt, ipv4At, macSize, ipv4Size}
+use Rattle.settings.specs.Layout as layout
+use Rattle.settings.specs.Layout.{settingsIn, sound, hasDedicatedMac, macAt, ipv4At, macSize, ipv4Size}
 use Rattle.address.specs.declared.Address.{Address}
 use Rattle.address.specs.declared.Address.the-variants.{Mac, Ipv4}
 use Rattle.address.specs.declared.Source.{Source}
-use Rattle.address.specs.declared.Source.the-variants.{Nowhere, Record, Flash}
+use Rattle.address.specs.declared.Source.the-variants.{Nowhere, Settings, Flash}
 
--- "MAC: the record if CBDM, else Flash. IPv4: the record if kept, else Flash."
-unfoldable pub isInRecord : Address → Settings → Bool
-isInRecord Mac s = hasDedicatedMac (s .control)
-isInRecord Ipv4 s = s .addressKept
+-- whether the settings hold the address that is in force: a MAC where it is dedicated, an IPv4 where it was kept (manual 5.9)
+unfoldable pub isInSettings : Address → layout.Settings → Bool
+isInSettings Mac s = hasDedicatedMac (s .control)
+isInSettings Ipv4 s = s .addressKept
 
--- "The Flash block is 10 bytes: host MAC, then IPv4."
+-- the size of a Flash block, which has a MAC in front and an IPv4 behind it (manual 5.8)
 abbrev pub flashSize : ℕ
 flashSize = 10
 
--- "If either buffer is too short or the record not sound, the part is empty." A record too short is not sound.
+-- nowhere where the settings are not sound, which too short ones never are, or Flash is too short (manual 5.9)
 unfoldable pub sourceOf : Address → List ℕ → List ℕ → Source
 sourceOf address settings flash =
     if sound settings then
     (if ltb (length flash) flashSize then Nowhere else
-    if isInRecord address (settingsIn settings) then Record else
+    if isInSettings address (settingsIn settings) then Settings else
     Flash)
     else Nowhere
 
--- an address in the record, and in the Flash block
-abbrev pub recordPart : Address → RefT (List ℕ) → Slice
-recordPart Mac = partOf macAt macSize
-recordPart Ipv4 = partOf ipv4At ipv4Size
+-- an address in the settings (manual 5.3), and in the Flash block (manual 5.8)
+abbrev pub settingsPart : Address → RefT (List ℕ) → Slice
+settingsPart Mac = partOf macAt macSize
+settingsPart Ipv4 = partOf ipv4At ipv4Size
 
 abbrev pub flashPart : Address → RefT (List ℕ) → Slice
 flashPart Mac = partOf 0 macSize
 flashPart Ipv4 = partOf macSize ipv4Size
 
--- "shown as a part of the record or of the Flash block, whichever it comes from"; an empty part is one of the record
+-- the part of its source, and an empty part of the settings where there is none (manual 5.9)
 abbrev pub shownFrom : Source → Address → RefT (List ℕ) → RefT (List ℕ) → Slice
 shownFrom Nowhere address settings flash = partOf 0 0 settings
-shownFrom Record address settings flash = recordPart address settings
+shownFrom Settings address settings flash = settingsPart address settings
 shownFrom Flash address settings flash = flashPart address flash
 
+-- an address in force, whatever the bytes (manual 5.9)
 unfoldable pub inForce : Address → RefT (List ℕ) → RefT (List ℕ) → Slice
 inForce address settings flash = shownFrom (sourceOf address (now settings) (now flash)) address settings flash

@@ -1,21 +1,21 @@
-// The addresses in force, shown as a part of the receive settings record or of the Flash block.
+// The addresses in force, each shown as a part of the settings or of the Flash block.
 ghost use mathlib.Core.Path.{_≡_};
 ghost use Prim.Native.Nat.{_≤_};
 ghost use lib.ListN.{length};
 ghost use Rattle.prelude.specs.Parts.{sliceOf};
-ghost use Rattle.settings.specs.Record.{settingsIn};
-ghost use Rattle.address.specs.Address.{isInRecord, recordPart, flashPart, sourceOf, inForce};
+ghost use Rattle.settings.specs.Layout.{size, settingsIn};
+ghost use Rattle.address.specs.Address.{flashSize, isInSettings, settingsPart, flashPart, sourceOf, inForce};
 
 pub enum Address {
     Mac,
     Ipv4,
 }
 
-// Where an address in force comes from. It comes from nowhere where the record is not sound or the
-// Flash block has fewer than FLASH_SIZE bytes.
+// Where an address in force comes from: from nowhere where the settings are not sound or the Flash
+// block has fewer than FLASH_SIZE bytes.
 pub enum Source {
     Nowhere,
-    Record,
+    Settings,
     Flash,
 }
 
@@ -24,16 +24,16 @@ pub const FLASH_SIZE: usize = 10;
 
 const FLASH_IPV4: usize = 6;
 
-// The MAC address in force, a part of its source: the record if it has a dedicated MAC address. An
-// empty part of the record where it comes from nowhere.
+// The MAC address in force: a part of the settings if they have a dedicated MAC address, else of
+// Flash, and an empty part of the settings where it comes from nowhere.
 pub fn mac_in_force<'a>(settings: &'a [u8], flash: &'a [u8]) -> &'a [u8]
     ensures { λ r. ⌜ sliceOf r ≡ inForce Address.Mac (settings .entry) (flash .entry) ⌝ }
 {
     in_force(Address::Mac, settings, flash)
 }
 
-// The IPv4 address in force, a part of its source: the record if it keeps an address. An empty part
-// of the record where it comes from nowhere.
+// The IPv4 address in force: a part of the settings if they keep an address, else of Flash, and an
+// empty part of the settings where it comes from nowhere.
 pub fn ipv4_in_force<'a>(settings: &'a [u8], flash: &'a [u8]) -> &'a [u8]
     ensures { λ r. ⌜ sliceOf r ≡ inForce Address.Ipv4 (settings .entry) (flash .entry) ⌝ }
 {
@@ -45,7 +45,7 @@ fn in_force<'a>(address: Address, settings: &'a [u8], flash: &'a [u8]) -> &'a [u
 {
     match source_of(address, settings, flash) {
         Source::Nowhere => &settings[0..0],
-        Source::Record => record_part(address, settings),
+        Source::Settings => settings_part(address, settings),
         Source::Flash => flash_part(address, flash),
     }
 }
@@ -60,25 +60,25 @@ pub fn source_of(address: Address, settings: &[u8], flash: &[u8]) -> Source
     if flash.len() < FLASH_SIZE {
         return Source::Nowhere;
     }
-    if is_in_record(address, settings) {
-        return Source::Record;
+    if is_in_settings(address, settings) {
+        return Source::Settings;
     }
     Source::Flash
 }
 
-fn is_in_record(address: Address, settings: &[u8]) -> bool
-    requires { ⌜ 15 ≤ length (now settings) ⌝ }
-    ensures { λ r. ⌜ r ≡ isInRecord address (settingsIn (now (settings .entry))) ⌝ }
+fn is_in_settings(address: Address, settings: &[u8]) -> bool
+    requires { ⌜ size ≤ length (now settings) ⌝ }
+    ensures { λ r. ⌜ r ≡ isInSettings address (settingsIn (now (settings .entry))) ⌝ }
 {
     match address {
-        Address::Mac => settings[settings::CONTROL] / 128 % 2 == 1,
-        Address::Ipv4 => settings[settings::KEPT] / 2 % 2 == 1,
+        Address::Mac => settings[settings::CONTROL] / settings::CBDM % 2 == 1,
+        Address::Ipv4 => settings[settings::KEPT] / settings::IPV4_KEPT % 2 == 1,
     }
 }
 
-fn record_part<'a>(address: Address, settings: &'a [u8]) -> &'a [u8]
-    requires { ⌜ 15 ≤ length (now settings) ⌝ }
-    ensures { λ r. ⌜ sliceOf r ≡ recordPart address (settings .entry) ⌝ }
+fn settings_part<'a>(address: Address, settings: &'a [u8]) -> &'a [u8]
+    requires { ⌜ size ≤ length (now settings) ⌝ }
+    ensures { λ r. ⌜ sliceOf r ≡ settingsPart address (settings .entry) ⌝ }
 {
     match address {
         Address::Mac => &settings[settings::MAC..settings::IPV4],
@@ -87,7 +87,7 @@ fn record_part<'a>(address: Address, settings: &'a [u8]) -> &'a [u8]
 }
 
 fn flash_part<'a>(address: Address, flash: &'a [u8]) -> &'a [u8]
-    requires { ⌜ 10 ≤ length (now flash) ⌝ }
+    requires { ⌜ flashSize ≤ length (now flash) ⌝ }
     ensures { λ r. ⌜ sliceOf r ≡ flashPart address (flash .entry) ⌝ }
 {
     match address {

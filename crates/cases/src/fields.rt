@@ -2,7 +2,6 @@
 // 0 is the operation's name, as it stands in the line.
 ghost use Prim.Native.Nat.{_≤_};
 ghost use lib.ListN.{length};
-use crate::account::SIZE;
 use crate::buffer::Buffer;
 use crate::buffer::NOT_A_CASE;
 use crate::buffer::fill;
@@ -11,6 +10,8 @@ use crate::buffer::put;
 use crate::number::pair;
 use crate::number::quad;
 use crate::number::u64_in;
+use crate::state_bytes::ACCOUNT_SIZE;
+use crate::state_bytes::STATE_SIZE;
 
 // The most fields of a case.
 pub(crate) const MAX: usize = 16;
@@ -110,8 +111,8 @@ pub(crate) fn first(ends: &[usize; MAX], count: usize) -> &[usize] {
 }
 
 // Whether the fields are of the form, which is an operation's name, a space and a character for
-// each other field: `*` for any bytes, `?` for a flag, `A` for an account, and else the field's
-// size.
+// each other field: `*` for any bytes, `?` for a flag, `A` for an account, `S` for a state, and else
+// the field's size.
 pub(crate) fn are(bytes: &Buffer, ends: &[usize], form: &[u8]) -> bool {
     let name_end = word_end(form, 0);
     if !check::same(at(bytes, ends, 0), &form[0..name_end]) {
@@ -143,7 +144,8 @@ fn is_of_kind(field: &[u8], kind: u8) -> bool {
         b'2' => field.len() == 2,
         b'4' => field.len() == 4,
         b'8' => field.len() == 8,
-        b'A' => field.len() == SIZE,
+        b'A' => field.len() == ACCOUNT_SIZE,
+        b'S' => field.len() == STATE_SIZE,
         _ => false,
     }
 }

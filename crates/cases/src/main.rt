@@ -31,23 +31,25 @@
 //         DIGEST/4
 //     shown SIZE/2 SEED/1 LENGTH/8
 //         LENGTH/2 DIGEST/4
-//     fresh-account MAXIMUM/4
-//         ANSWER/1 ACCOUNT/264
-//     sound-account ACCOUNT/264
+//     sound-account ACCOUNT/256
 //         SOUND/flag
-//     start ACCOUNT/264 STORE_SIZE/2 STORE_SEED/1 SETTINGS
+//     fresh-state MAXIMUM/4
+//         ANSWER/1 STATE/264
+//     sound-state STATE/264
+//         SOUND/flag
+//     start STATE/264 STORE_SIZE/2 STORE_SEED/1 SETTINGS
 //         SOUND/flag
 //     send COMMAND/1 LINK/flag DATA
-//         ANSWER/1 SENT/2 ACCOUNT_DIGEST/4 STORE_DIGEST/4 SETTINGS_DIGEST/4
+//         ANSWER/1 SENT/2 STATE_DIGEST/4 STORE_DIGEST/4 SETTINGS_DIGEST/4
 //     send-pattern COMMAND/1 LINK/flag SIZE/2 SEED/1
-//         ANSWER/1 SENT/2 ACCOUNT_DIGEST/4 STORE_DIGEST/4 SETTINGS_DIGEST/4
+//         ANSWER/1 SENT/2 STATE_DIGEST/4 STORE_DIGEST/4 SETTINGS_DIGEST/4
 //     show
-//         ACCOUNT/264 SETTINGS
+//         STATE/264 SETTINGS
 //     packet LENGTH/8
 //         LENGTH/2 DIGEST/4
 //     journal PIECE/2 JOURNAL
 //         PRINTOUT
-//     print ACCOUNT/264 ROOM/2
+//     print ACCOUNT/256 ROOM/2
 //         LENGTH/2 BUFFER
 //
 // The media is 00 for copper and 01 for fibre, and the source 00 for nowhere, 01 for the settings
@@ -62,12 +64,12 @@
 // `append`, `fill` and `shown` is one. The first two answer the digest of the store as they leave
 // it, and `shown` the length and the digest of the part that is shown.
 //
-// An account is 33 numbers of eight bytes: the maximum, the 27 of the grid, open fragments, open
-// bytes, taken, refused and total. `start` has the account, a store, which is a pattern of at most
-// 2048 bytes, and at most 64 bytes of settings carried from there on. Before it they are 33 zeros
-// and no bytes. `send` and `send-pattern`, whose data is a pattern of at most 2048 bytes, do one
-// transaction on what is carried, and the digests are those after it. `show` and `packet` show what
-// is carried.
+// An account is 32 numbers of eight bytes: the 27 of the grid, open fragments, open bytes, taken,
+// refused and total. A state is an account and the maximum behind it. `start` has the state, a
+// store, which is a pattern of at most 2048 bytes, and at most 64 bytes of settings carried from
+// there on. Before it they are 33 zeros and no bytes. `send` and `send-pattern`, whose data is a
+// pattern of at most 2048 bytes, do one transaction on what is carried, and the digests are those
+// after it. `show` and `packet` show what is carried.
 //
 // A journal is fed in pieces of PIECE bytes, or whole where that is 0, and its outcome is printed.
 // `print` prints into a buffer of ROOM bytes, at most 2048, which is a pattern with the seed aa
@@ -75,7 +77,6 @@
 //
 // Any other line is answered by the line `not a case`, and so is what stands behind the last line
 // feed.
-mod account;
 mod answer;
 mod buffer;
 mod carried;
@@ -85,7 +86,8 @@ mod link;
 mod number;
 mod pattern;
 mod printed;
-mod settings_record;
+mod receive_settings;
+mod state_bytes;
 mod status_block;
 mod store;
 mod transaction;
@@ -208,7 +210,7 @@ fn put_fields(bytes: &Buffer, ends: &[usize], carried: &mut Buffer, text: &mut B
     if end != NOT_A_CASE {
         return end;
     }
-    let end = settings_record::answer(bytes, ends, text);
+    let end = receive_settings::answer(bytes, ends, text);
     if end != NOT_A_CASE {
         return end;
     }
@@ -216,7 +218,7 @@ fn put_fields(bytes: &Buffer, ends: &[usize], carried: &mut Buffer, text: &mut B
     if end != NOT_A_CASE {
         return end;
     }
-    let end = account::answer(bytes, ends, text);
+    let end = state_bytes::answer(bytes, ends, text);
     if end != NOT_A_CASE {
         return end;
     }

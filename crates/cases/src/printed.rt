@@ -1,15 +1,12 @@
 // The cases of journals and of the printout.
 ghost use Prim.Native.Nat.{_≤_};
-use crate::account;
 use crate::answer::put_bytes;
 use crate::answer::put_u16;
 use crate::buffer::Buffer;
 use crate::buffer::NOT_A_CASE;
 use crate::fields;
 use crate::pattern;
-
-// More bytes than any printout has.
-const PRINTOUT: usize = 1024;
+use crate::state_bytes::account_of;
 
 // The most room that a case of the printout has, and what it is filled with before.
 const MAX_ROOM: usize = 2048;
@@ -30,7 +27,7 @@ pub(crate) fn answer(bytes: &Buffer, ends: &[usize], text: &mut Buffer) -> usize
 fn answer_journal(bytes: &Buffer, ends: &[usize], text: &mut Buffer) -> usize {
     let piece = fields::u16_at(bytes, ends, 1) as usize;
     let journal = fields::at(bytes, ends, 2);
-    let mut out = [0u8; PRINTOUT];
+    let mut out = [0u8; printout::MAX_PRINTOUT];
     if piece == 0 {
         let length = journal::print_journal(journal, &mut out);
         return put_bytes(text, 0, part(&out, 0, length));
@@ -43,9 +40,6 @@ fn answer_journal(bytes: &Buffer, ends: &[usize], text: &mut Buffer) -> usize {
 fn print_fed(journal: &[u8], piece: usize, out: &mut [u8]) -> usize
     requires { ⌜ 1 ≤ piece ⌝ }
 {
-    let mut store = [0u8; 1536];
-    let mut settings = [0u8; settings::SIZE];
-    settings::fresh(&mut settings);
     let mut reading = journal::start();
     let mut used: usize = 0;
     let mut end: usize = 0;
@@ -53,7 +47,7 @@ fn print_fed(journal: &[u8], piece: usize, out: &mut [u8]) -> usize
     while left > 0 {
         let next = least(piece, left);
         end += next;
-        let fed = journal::feed(reading, &mut store, &mut settings, part(journal, used, end));
+        let fed = journal::feed(reading, part(journal, used, end));
         reading = fed.reading;
         used += least(fed.used, end - used);
         left -= next;
@@ -69,7 +63,7 @@ fn answer_print(bytes: &Buffer, ends: &[usize], text: &mut Buffer) -> usize {
     let mut space = [0u8; MAX_ROOM];
     let out = &mut space[0..room];
     pattern::fill(out, SEED);
-    let account = account::of_bytes(fields::at(bytes, ends, 1));
+    let account = account_of(fields::at(bytes, ends, 1));
     let length = printout::print(account, out);
     let end = put_u16(text, 0, (length % 65536) as u16);
     put_bytes(text, end, out)

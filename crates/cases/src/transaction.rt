@@ -1,5 +1,4 @@
 // The cases of transactions, on what is carried from one case to the next.
-use crate::account;
 use crate::answer::put_bytes;
 use crate::answer::put_flag;
 use crate::answer::put_u8;
@@ -14,6 +13,7 @@ use crate::carried::MAX_STORE;
 use crate::digest;
 use crate::fields;
 use crate::pattern;
+use crate::state_bytes;
 use crate::store;
 use outcome::Outcome;
 
@@ -26,7 +26,7 @@ pub(crate) fn answer(
     carried: &mut Buffer,
     text: &mut Buffer,
 ) -> usize {
-    if fields::are(bytes, ends, b"start A21*") {
+    if fields::are(bytes, ends, b"start S21*") {
         return answer_start(bytes, ends, carried, text);
     }
     if fields::are(bytes, ends, b"send 1?*") {
@@ -49,7 +49,7 @@ pub(crate) fn answer(
 }
 
 fn answer_start(bytes: &Buffer, ends: &[usize], carried: &mut Buffer, text: &mut Buffer) -> usize {
-    let account = fields::at(bytes, ends, 1);
+    let state = fields::at(bytes, ends, 1);
     let size = fields::u16_at(bytes, ends, 2) as usize;
     let settings = fields::at(bytes, ends, 4);
     if size > MAX_STORE {
@@ -61,8 +61,8 @@ fn answer_start(bytes: &Buffer, ends: &[usize], carried: &mut Buffer, text: &mut
     let mut space = buffer::new();
     let store = &mut space[0..size];
     pattern::fill(store, fields::u8_at(bytes, ends, 3));
-    carried::start(carried, account, store, settings);
-    put_flag(text, 0, account::is_sound(account))
+    carried::start(carried, state, store, settings);
+    put_flag(text, 0, state_bytes::is_sound(state))
 }
 
 fn answer_send(bytes: &Buffer, ends: &[usize], carried: &mut Buffer, text: &mut Buffer) -> usize {
@@ -92,14 +92,15 @@ fn answer_send_pattern(
 }
 
 fn put_outcome(text: &mut Buffer, outcome: Outcome, carried: &Buffer) -> usize {
-    let end = put_u8(text, 0, (outcome::number(outcome) % 256) as u8);
-    let end = put_u16(text, end, (outcome::sent_length(outcome) % 65536) as u16);
-    let end = put_u32(text, end, digest::of_bytes(carried::account(carried)));
+    let reply = outcome::reply_to(outcome);
+    let end = put_u8(text, 0, (reply.answer % 256) as u8);
+    let end = put_u16(text, end, (reply.sent % 65536) as u16);
+    let end = put_u32(text, end, digest::of_bytes(carried::state(carried)));
     let end = put_u32(text, end, digest::of_bytes(carried::store(carried)));
     put_u32(text, end, digest::of_bytes(carried::settings(carried)))
 }
 
 fn answer_show(carried: &Buffer, text: &mut Buffer) -> usize {
-    let end = put_bytes(text, 0, carried::account(carried));
+    let end = put_bytes(text, 0, carried::state(carried));
     put_bytes(text, end, carried::settings(carried))
 }

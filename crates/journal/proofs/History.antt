@@ -1,140 +1,102 @@
--- A journal's transactions are calls of demand 3.
+-- The transactions of a journal are calls of demand 3.
 -- Assumes nothing.
-use Prim.Native.Nat.{ℕ, _≤_}
-use mathlib.Core.Bool.{Bool, true, false, true≢false}
-use mathlib.Core.List.{List, [], _∷_, _++_, append-nil}
+use mathlib.Core.List.{List, [], _∷_, map, append-nil}
 use mathlib.Core.Path.{_≡_, refl, sym, ap, _∙_, subst}
 use native.Mathlib.Omega.{arith}
-use lib.ListN.{length, take, drop, drop-of-length-le}
+use lib.ListN.{length, take, drop-of-length-le}
 use lib.Seq.{take-all}
-use borrow.Author.Tests.{le-leb}
+use Rattle.prelude.specs.After.{After}
+use Rattle.prelude.specs.After as prelude
 use Rattle.prelude.specs.Choice.{if_then_else_}
-use Rattle.prelude.proofs.Tests.{if-true, if-cases}
-use Rattle.packet.specs.Store.{maxPacket}
-use Rattle.settings.specs.Record as settings-record
+use Rattle.printout.specs.Printout.{printout}
+use Rattle.record.specs.Transaction.{Transaction}
+use Rattle.settings.specs.Layout.{withSettings}
 use Rattle.settings.specs.Enable.{freshened}
-use Rattle.state.specs.declared.Account.{Account}
-use Rattle.state.specs.Account.{maxMaximum, freshAccount, made}
-use Rattle.translator.specs.Properties.{Formed}
-use Rattle.translator.specs.Transact.{Done, transacted}
+use Rattle.state.specs.declared.State.{State}
+use Rattle.state.specs.Account.{Formed}
+use Rattle.state.specs.State.{freshState, made}
+use Rattle.state.proofs.FreshStates.{made-fresh}
+use Rattle.translator.specs.declared.Transacted.{Transacted}
+use Rattle.translator.specs.Transact.{transacted}
+use Rattle.translator.specs.Replay.{stateAfter, allTransacted, emptyStore, settingsAtStart}
 use Rattle.translator.proofs.Properties.{every-transaction}
 use Rattle.translator.proofs.Keeping.{every-keeping}
-use Rattle.history.specs.Calls.{Call, transact, Kept, step, hasRoom, withRoom, mostCounted, counted}
-use Rattle.history.specs.Calls as calls
-use Rattle.history.specs.Demand3.{Agrees, maximumFor, fresh}
-use Rattle.history.specs.Reading as history
+use Rattle.history.specs.Calls.{Call, transact, Kept, step, after, storeNeeded, settingsNeeded, hasRoom, withRoom, mostCounted}
+use Rattle.history.specs.Demand3.{Demand3For, fresh}
+use Rattle.history.specs.Reading.{Entry, counted, setupFor}
+use Rattle.history.specs.Runs.{accountFor}
 use Rattle.history.proofs.Demand3.{demand3}
-use Rattle.journal.specs.declared.format.Header.{Header}
-use Rattle.journal.specs.declared.format.Header.the-variants as header
-use Rattle.record.specs.Records.{Transaction}
-use Rattle.journal.specs.Format.{Journal, bad, good, headerIn, withHeader, parsed, headerSize}
-use Rattle.translator.specs.Replay.{Carried, carried, replayed}
-use Rattle.journal.specs.Journal.{emptyStore, freshRecord}
-use Rattle.journal.specs.History.{entriesOf, callsOf, keptAfter, ReplaysAs, EveryReplay, EveryJournal}
-use Rattle.state.proofs.FreshAccounts.{made-fresh}
-use Rattle.journal.proofs.Headers.{Good}
-use Rattle.journal.proofs.Headers as headers
+use Rattle.journal.specs.Journal.{accountAfter, outputOf, output}
+use Rattle.journal.specs.History.{keptAfter, listOf, EveryJournal}
+use Rattle.journal.proofs.RoundTrip.{round-trip}
 
--- one after another, on a store and a record that are lent whole
-module _ (n m : ℕ) (t : Transaction) (kept : Kept) (whole-store : length (kept .store) ≡ n) (whole-record : length (kept .settings) ≡ m) where
-  abbrev call : Call
-  call = transact n m (t .command) (t .bytes) (t .linkUp)
+-- what a replay holds of what a caller keeps
+abbrev held : Kept → After State
+held kept = prelude.after (kept .state) (kept .store) (kept .settings)
 
-  abbrev done : Done
-  done = transacted (kept .account) (kept .store) (kept .settings) (t .command) (t .bytes) (t .linkUp)
+abbrev callOf : Transaction → Call
+callOf t = transact storeNeeded settingsNeeded t
 
-  lent-whole : transacted (kept .account) (take n (kept .store)) (take m (kept .settings)) (t .command) (t .bytes) (t .linkUp) ≡ done
-  lent-whole = rw (take-all n (kept .store) (omega arith), take-all m (kept .settings) (omega arith))
+-- a store and settings that are lent whole
+record Whole (kept : Kept) : Type 0 where
+  store-whole : length (kept .store) ≡ storeNeeded
+  settings-whole : length (kept .settings) ≡ settingsNeeded
+  formed : Formed (kept .state .account)
 
-  step-account : step call kept .account ≡ done .result .account
-  step-account = ap (λ (d : Done). d .result .account) lent-whole
+module _ (t : Transaction) (kept : Kept) (whole : Whole kept) where
+  abbrev left : After Transacted
+  left = transacted (kept .state) (kept .store) (kept .settings) t
 
-  step-store : step call kept .store ≡ done .store
-  step-store =
-      ap (λ (d : Done). d .store ++ drop n (kept .store)) lent-whole
-      ∙ rw (drop-of-length-le (kept .store) {i = n} (omega arith)) (append-nil (done .store))
+  step-is : held (step (callOf t) kept) ≡ stateAfter left
+  step-is =
+      let all-store : length (kept .store) ≡ storeNeeded = whole .store-whole in
+      let all-settings : length (kept .settings) ≡ settingsNeeded = whole .settings-whole in
+      rw (take-all storeNeeded (kept .store) (omega arith), take-all settingsNeeded (kept .settings) (omega arith), drop-of-length-le (kept .store) {i = storeNeeded} (omega arith), drop-of-length-le (kept .settings) {i = settingsNeeded} (omega arith), append-nil (left .store), append-nil (left .settings))
 
-  step-settings : step call kept .settings ≡ done .settings
-  step-settings =
-      ap (λ (d : Done). d .settings ++ drop m (kept .settings)) lent-whole
-      ∙ rw (drop-of-length-le (kept .settings) {i = m} (omega arith)) (append-nil (done .settings))
+  whole-stays : Whole (step (callOf t) kept)
+  whole-stays =
+      let keeps : _ = every-keeping (kept .state) (kept .store) (kept .settings) t (whole .formed) in
+      record {
+        store-whole = ap (λ (x : After State). length (x .store)) step-is ∙ keeps .0 .same-length ∙ whole .store-whole;
+        settings-whole = ap (λ (x : After State). length (x .settings)) step-is ∙ keeps .1 .0 ∙ whole .settings-whole;
+        formed = subst (λ (x : After State). Formed (x .result .account)) (sym step-is) (every-transaction (kept .state) (kept .store) (kept .settings) t (whole .formed) .account-stays-formed);
+      }
 
-replayed-is-calls : (n m : ℕ) (transactions : List Transaction) (s : Carried) (kept : Kept) → kept .account ≡ s .account → kept .store ≡ s .store → kept .settings ≡ s .settings
-    → length (kept .store) ≡ n → length (kept .settings) ≡ m → Formed (kept .account)
-    → ReplaysAs (replayed s transactions) (calls.after (callsOf n m transactions) kept)
-unfolding replayed
-replayed-is-calls n m [] s kept a b c k l formed = record { account-is = sym a; store-is = sym b; settings-are = sym c }
-replayed-is-calls n m (t ∷ rest) s kept a b c k l formed =
-    let d : Done = done n m t kept k l in
-    let same : transacted (s .account) (s .store) (s .settings) (t .command) (t .bytes) (t .linkUp) ≡ d = rw (sym a, sym b, sym c) in
-    let account-is : _ = step-account n m t kept k l in
-    let store-is : _ = step-store n m t kept k l in
-    let settings-is : _ = step-settings n m t kept k l in
-    let every : _ = every-transaction (kept .account) (kept .store) (kept .settings) (t .command) (t .bytes) (t .linkUp) formed in
-    let keeping : _ = every-keeping (kept .account) (kept .store) (kept .settings) (t .command) (t .bytes) (t .linkUp) formed in
-    replayed-is-calls n m rest _ (step (call n m t kept k l) kept)
-    (account-is ∙ ap (λ (x : Done). x .result .account) (sym same))
-    (store-is ∙ ap (λ (x : Done). x .store) (sym same))
-    (settings-is ∙ ap (λ (x : Done). x .settings) (sym same))
-    (ap length store-is ∙ keeping .0 .same-length ∙ k)
-    (ap length settings-is ∙ keeping .1 .0 ∙ l)
-    (subst Formed (sym account-is) (every .account-stays-formed))
+replayed-is-calls : (transactions : List Transaction) (kept : Kept) → Whole kept → allTransacted (held kept) transactions ≡ held (after (map callOf transactions) kept)
+unfolding allTransacted
+replayed-is-calls [] kept whole = refl
+replayed-is-calls (t ∷ rest) kept whole =
+    ap (λ (x : After State). allTransacted x rest) (sym (step-is t kept whole)) ∙ replayed-is-calls rest (step (callOf t) kept) (whole-stays t kept whole)
 
-pub every-replay : EveryReplay
-every-replay kept transactions formed = replayed-is-calls (length (kept .store)) (length (kept .settings)) transactions (carried (kept .account) (kept .store) (kept .settings)) kept refl refl refl refl refl formed
+-- every call has room
+all-have-room : (transactions : List Transaction) → withRoom (length emptyStore) (length settingsAtStart) (map callOf transactions) ≡ map counted transactions
+unfolding hasRoom withSettings if_then_else_
+all-have-room [] = refl
+all-have-room (t ∷ rest) = ap (λ (entries : List Entry). counted t ∷ entries) (all-have-room rest)
 
--- all of them have room
-room : hasRoom (length emptyStore) (length freshRecord) maxPacket settings-record.size ≡ true
-unfolding hasRoom settings-record.withSettings if_then_else_
-room = refl
+settings-are-fresh : freshened settingsAtStart .settings ≡ settingsAtStart
+unfolding freshened withSettings if_then_else_
+settings-are-fresh = refl
 
-calls-have-room : (transactions : List Transaction) → withRoom (length emptyStore) (length freshRecord) (callsOf maxPacket settings-record.size transactions) ≡ entriesOf transactions
-calls-have-room [] = refl
-calls-have-room (t ∷ rest) =
-    if-true _ _ _ room ∙ ap (λ (es : List history.Entry). history.transaction (t .command) (t .bytes) (t .linkUp) ∷ es) (calls-have-room rest)
-
-fresh-record : freshened freshRecord .settings ≡ freshRecord
-unfolding freshened settings-record.withSettings if_then_else_
-fresh-record = refl
-
-maximum-is : (maximum : ℕ) → 1 ≤ maximum → maximum ≤ maxMaximum → maximumFor maximum ≡ maximum
-unfolding maximumFor
-maximum-is maximum least most = if-true _ _ _ (if-true _ _ _ (le-leb 1 maximum least) ∙ le-leb maximum maxMaximum most)
-
-record-length : length freshRecord ≡ settings-record.size
-unfolding settings-record.withSettings
-record-length = refl
-
-record-room : settings-record.size ≤ length freshRecord
-record-room = rw record-length (omega arith)
-
-bad-not-good : (maximum : ℕ) (transactions : List Transaction) → bad ≡ good maximum transactions → ⊥
-bad-not-good maximum transactions e = true≢false (ap is-bad e)
-  where
-    is-bad : Journal → Bool
-    is-bad bad = true
-    is-bad (good m ts) = false
-
--- the maximum of a journal that is read
-good-header : (bytes rest : List ℕ) (maximum : ℕ) (transactions : List Transaction) (h : Header) → headerIn bytes ≡ h → withHeader h rest ≡ good maximum transactions → Good bytes maximum
-good-header bytes rest maximum transactions header.Cut e g = absurd (bad-not-good maximum transactions g)
-good-header bytes rest maximum transactions header.Bad e g = absurd (bad-not-good maximum transactions g)
-good-header bytes rest maximum transactions (header.Maximum k) e g =
-    if-cases (λ (j : Journal). j ≡ good maximum transactions → Good bytes maximum) _ _ _
-    (λ _ q. let same : k ≡ maximum = cc in subst (Good bytes) same (headers.good bytes k e))
-    (λ _ q. absurd (bad-not-good maximum transactions q)) g
+settings-length : length settingsAtStart ≡ settingsNeeded
+unfolding withSettings
+settings-length = refl
 
 pub every-journal : EveryJournal
-unfolding parsed
+unfolding output
 every-journal bytes maximum transactions e =
-    let g : Good bytes maximum = good-header bytes (drop headerSize bytes) maximum transactions (headerIn bytes) refl e in
-    let account-is : made maximum .account ≡ freshAccount maximum = made-fresh maximum (g .least) (g .most) in
-    let counted-are : counted (length emptyStore) (length freshRecord) (callsOf maxPacket settings-record.size transactions) ≡ take mostCounted (entriesOf transactions) = ap (take mostCounted) (calls-have-room transactions) in
-    let agrees : Agrees (maximumFor maximum) (counted (length emptyStore) (length freshRecord) (callsOf maxPacket settings-record.size transactions)) (keptAfter maximum transactions)
-    = demand3 maximum emptyStore freshRecord record-room (callsOf maxPacket settings-record.size transactions) in
-    record {
-      printed-is-kept = replayed-is-calls maxPacket settings-record.size transactions (carried (freshAccount maximum) emptyStore freshRecord) (fresh maximum emptyStore freshRecord) account-is refl fresh-record refl (ap length fresh-record ∙ record-length) (ap (λ (a : Account). length (a .grid)) account-is) .account-is;
-      kept-agrees =
-          subst (λ (m : ℕ). Agrees m (take mostCounted (entriesOf transactions)) (keptAfter maximum transactions)) (maximum-is maximum (g .least) (g .most))
-          (subst (λ (es : List history.Entry). Agrees (maximumFor maximum) es (keptAfter maximum transactions)) counted-are agrees);
-    }
+    let told : _ = round-trip .read-was-written bytes maximum transactions e in
+    let start : Kept = fresh maximum emptyStore settingsAtStart in
+    let state-is : made maximum .state ≡ freshState maximum = made-fresh maximum (told .1) (told .2) in
+    let held-is : held start ≡ prelude.after (freshState maximum) emptyStore settingsAtStart = rw (state-is, settings-are-fresh) in
+    let whole : Whole start = record {
+      store-whole = refl;
+      settings-whole = ap length settings-are-fresh ∙ settings-length;
+      formed = subst (λ (s : State). Formed (s .account)) (sym state-is) refl;
+    } in
+    let kept-is : accountAfter maximum transactions ≡ keptAfter maximum transactions .state .account =
+    ap (λ (x : After State). x .result .account) (ap (λ (x : After State). allTransacted x transactions) (sym held-is) ∙ replayed-is-calls transactions start whole) in
+    let demand : Demand3For maximum emptyStore settingsAtStart (map callOf transactions) = demand3 maximum emptyStore settingsAtStart (rw settings-length (omega arith)) (map callOf transactions) in
+    let listed : accountAfter maximum transactions ≡ accountFor (setupFor maximum) (listOf transactions) =
+    kept-is ∙ demand .agrees .account-agrees ∙ ap (accountFor (setupFor maximum)) (demand .list-is ∙ ap (take mostCounted) (all-have-room transactions)) in
+    record { account-is-kept = kept-is; account-is-the-lists = listed; printed-is-the-lists = ap outputOf e ∙ ap printout listed }

@@ -13,11 +13,13 @@ use borrow.Author.Tests.{ltb-false, eqb-true, le-ltb, eq-eqb}
 use Rattle.prelude.specs.Choice.{if_then_else_}
 use Rattle.prelude.proofs.Lists.{by-elements}
 use Rattle.prelude.proofs.Tests.{if-true, if-false, if-cases, if-first, if-second}
-use Rattle.record.specs.Records.{Transaction, transaction, linkByte, recordsOf, Records, one, recordsAfter, recordsIn}
+use Rattle.record.specs.Records.{linkByte, recordsOf, Records, one, recordsAfter, recordsIn}
+use Rattle.record.specs.Transaction.{Transaction, transaction}
+use Rattle.state.specs.State.{maxMaximum}
 use Rattle.journal.specs.Format.{headerOf, headerSize, journalOf, isMarked, headerIn, Journal, bad, good, withHeader, parsed}
 use Rattle.journal.specs.Properties.{RoundTrip}
-use Rattle.journal.specs.declared.format.Header.{Header}
-use Rattle.journal.specs.declared.format.Header.the-variants as header
+use Rattle.journal.specs.declared.header.Header.{Header}
+use Rattle.journal.specs.declared.header.Header.the-variants as header
 use Rattle.journal.proofs.Headers.{Good}
 use Rattle.journal.proofs.Headers.{good as good-header}
 use Rattle.record.proofs.Records.{after-skip}
@@ -42,8 +44,8 @@ records-written (t ∷ rest) =
     let inside : length (t .bytes) ≤ length (t .bytes ++ recordsOf rest) = omega arith in
     if-false _ _ _ (link-low (t .linkUp))
     ∙ (if-false _ _ _ (le-ltb _ _ inside)
-    ∙ (ap (λ (b : Bool). one (transaction (t .command) b (take (length (t .bytes)) (t .bytes ++ recordsOf rest))) (recordsAfter (length (t .bytes)) (t .bytes ++ recordsOf rest))) (link-read (t .linkUp))
-    ∙ (ap (λ (d : List ℕ). one (transaction (t .command) (t .linkUp) d) (recordsAfter (length (t .bytes)) (t .bytes ++ recordsOf rest))) (take-append-seam (t .bytes) (recordsOf rest))
+    ∙ (ap (λ (b : Bool). one (transaction (t .command) (take (length (t .bytes)) (t .bytes ++ recordsOf rest)) b) (recordsAfter (length (t .bytes)) (t .bytes ++ recordsOf rest))) (link-read (t .linkUp))
+    ∙ (ap (λ (d : List ℕ). one (transaction (t .command) d (t .linkUp)) (recordsAfter (length (t .bytes)) (t .bytes ++ recordsOf rest))) (take-append-seam (t .bytes) (recordsOf rest))
     ∙ (ap (one t) (after-skip (length (t .bytes)) (t .bytes ++ recordsOf rest) inside ∙ (ap recordsIn (drop-append-seam (t .bytes) (recordsOf rest)) ∙ records-written rest))
     ∙ ap (λ (n : ℕ). record { transactions = t ∷ rest; used = n; badLink = false }) (place size)))))
   where
@@ -51,7 +53,7 @@ records-written (t ∷ rest) =
         → 3 + length (t .bytes) + length (recordsOf rest) ≡ length (recordsOf (t ∷ rest))
     place e = omega arith
 
-written-is-read : (maximum : ℕ) (transactions : List Transaction) → 1 ≤ maximum → maximum ≤ 240 → parsed (journalOf maximum transactions) ≡ good maximum transactions
+written-is-read : (maximum : ℕ) (transactions : List Transaction) → 1 ≤ maximum → maximum ≤ maxMaximum → parsed (journalOf maximum transactions) ≡ good maximum transactions
 unfolding parsed headerIn isMarked if_then_else_
 written-is-read maximum transactions least most =
     ap (λ (h : Header). withHeader h (recordsOf transactions)) read
@@ -61,11 +63,11 @@ written-is-read maximum transactions least most =
     size : ℕ
     size = length (recordsOf transactions)
 
-    long : 6 ≤ length (journalOf maximum transactions)
+    long : headerSize ≤ length (journalOf maximum transactions)
     long = omega arith
 
     read : headerIn (journalOf maximum transactions) ≡ header.Maximum maximum
-    read = if-false _ _ _ (le-ltb _ _ long) ∙ (if-false _ _ _ (le-ltb maximum 1 least) ∙ if-false _ _ _ (le-ltb 240 maximum most))
+    read = if-false _ _ _ (le-ltb _ _ long) ∙ (if-false _ _ _ (le-ltb maximum 1 least) ∙ if-false _ _ _ (le-ltb maxMaximum maximum most))
 
 -- a link byte that was read is what is written for it
 link-written : (link : ℕ) → ltb 1 link ≡ false → linkByte (eqb link 1) ≡ link
@@ -91,7 +93,7 @@ records-rewritten zero (command ∷ link ∷ size ∷ rest) h =
     P r = recordsOf (r .transactions) ≡ take (r .used) (command ∷ link ∷ size ∷ rest)
 
     whole : ltb 1 link ≡ false → size ≤ length rest → recordsOf (recordsAfter size rest .transactions) ≡ take (recordsAfter size rest .used) (drop size rest)
-        → P (one (transaction command (eqb link 1) (take size rest)) (recordsAfter size rest))
+        → P (one (transaction command (take size rest) (eqb link 1)) (recordsAfter size rest))
     whole low inside e =
         let long : length (take size rest) ≡ size = length-take-le size rest inside in
         let after : Records = recordsAfter size rest in
@@ -110,16 +112,16 @@ header-rewritten bytes maximum g =
     let t1 : _ = if-second _ _ t in
     let t2 : _ = if-second _ _ t1 in
     let t3 : _ = if-second _ _ t2 in
-    by-elements 6 bytes (g .long)
+    by-elements headerSize bytes (g .long)
     ∙ rw (eqb-true (getD bytes 0 0) 0x54 (if-first _ _ t), eqb-true (getD bytes 1 0) 0x43 (if-first _ _ t1), eqb-true (getD bytes 2 0) 0x4F (if-first _ _ t2), eqb-true (getD bytes 3 0) 1 (if-first _ _ t3), eqb-true (getD bytes 4 0) 0 (if-second _ _ t3), g .has)
 
 read-was-written : (bytes : List ℕ) (maximum : ℕ) (transactions : List Transaction) → parsed bytes ≡ good maximum transactions
-    → (bytes ≡ journalOf maximum transactions) × (1 ≤ maximum) × (maximum ≤ 240)
+    → (bytes ≡ journalOf maximum transactions) × (1 ≤ maximum) × (maximum ≤ maxMaximum)
 unfolding parsed
 read-was-written bytes maximum transactions = by-header (headerIn bytes) refl
   where
     Told : Type 0
-    Told = (bytes ≡ journalOf maximum transactions) × (1 ≤ maximum) × (maximum ≤ 240)
+    Told = (bytes ≡ journalOf maximum transactions) × (1 ≤ maximum) × (maximum ≤ maxMaximum)
 
     never : bad ≡ good maximum transactions → Told
     never e = let z : _≡_ {A = ℕ} 0 1 = cc in absurd (omega arith)

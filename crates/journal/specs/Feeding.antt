@@ -1,75 +1,75 @@
--- A journal that is fed in pieces: what one call takes of a piece, and the outcome in the end (document 01, Journal and printout).
+-- A journal that is fed in pieces: what one call takes of a piece, and the outcome in the end (manual 9.3, 9.4).
 use Prim.Native.Nat.{ℕ}
-use mathlib.Core.Bool.{Bool}
+use mathlib.Core.Bool.{Bool, true, false}
 use mathlib.Core.List.{List}
 use lib.Dec.{eqb}
 use lib.ListN.{drop}
 use Rattle.prelude.specs.Choice.{if_then_else_}
-use Rattle.state.specs.declared.Account.{Account}
-use Rattle.state.specs.Account.{maxMaximum, freshAccount}
-use Rattle.translator.specs.Replay.{Replay, recordsReplayed}
-use Rattle.journal.specs.Format.{headerSize, headerIn, badJournal}
 use Rattle.printout.specs.Printout.{Written, shown, printed}
-use Rattle.journal.specs.declared.format.Header.{Header}
-use Rattle.journal.specs.declared.format.Header.the-variants as header
+use Rattle.state.specs.State.{maxMaximum}
+use Rattle.translator.specs.declared.records.Replay.{Replay}
+use Rattle.translator.specs.declared.records.Replayed.{Replayed}
+use Rattle.translator.specs.Replay.{freshReplay, replayed}
+use Rattle.journal.specs.Format.{headerSize, headerIn, badJournal}
+use Rattle.journal.specs.declared.header.Header.{Header}
+use Rattle.journal.specs.declared.header.Header.the-variants as header
 use Rattle.journal.specs.declared.reading.Fed.{Fed}
 use Rattle.journal.specs.declared.reading.Reading.{Reading}
 use Rattle.journal.specs.declared.reading.Stage.{Stage}
 use Rattle.journal.specs.declared.reading.Stage.the-variants as stage
 
--- a reading that went on, and what is left in the store and the settings
-pub record After : Type 0 where
-  pub result : Fed
-  pub store : List ℕ
-  pub settings : List ℕ
+-- where a reading stands, and what it has replayed (manual 9.4)
+abbrev pub readingAt : Stage → Replay → Reading
+readingAt stage replay = record { stage = stage; replay = replay }
 
-abbrev pub after : Fed → List ℕ → List ℕ → After
-after result store settings = record { result = result; store = store; settings = settings }
-
-abbrev pub readingAt : Stage → Account → Reading
-readingAt stage account = record { stage = stage; account = account }
-
+-- a reading that used so many bytes (manual 9.4)
 abbrev pub fedTo : Reading → ℕ → Fed
 fedTo reading used = record { reading = reading; used = used }
 
--- a bad link byte is bad for good
+-- nothing is read yet (manual 9.1)
+abbrev pub started : Reading
+started = readingAt stage.Start (freshReplay maxMaximum)
+
+-- a bad link byte is bad for good (manual 9.3)
 abbrev pub stageAfter : Bool → Stage
 stageAfter badLink = if badLink then stage.Bad else stage.Records
 
--- a reading once records were replayed
-abbrev pub afterReplay : Replay → After
-afterReplay r =
-    after (fedTo (readingAt (stageAfter (r .result .«bad_link»)) (r .result .account)) (r .result .at)) (r .store) (r .settings)
+-- a reading once records were replayed (manual 9.2)
+abbrev pub recordsFed : Replayed → Fed
+recordsFed r = fedTo (readingAt (stageAfter (r .«bad_link»)) (r .replay)) (r .at)
 
--- the whole records of some bytes, each as one transaction
-abbrev pub recordsFed : Account → List ℕ → List ℕ → ℕ → List ℕ → After
-recordsFed account store settings before bytes = afterReplay (recordsReplayed account store settings before bytes)
+-- a header that is cut waits for more; behind a good one come the records, on a fresh state for its maximum (manual 9.4)
+unfoldable pub byHeader : Header → Replay → List ℕ → Fed
+byHeader header.Cut replay part = fedTo (readingAt stage.Start replay) 0
+byHeader header.Bad replay part = fedTo (readingAt stage.Bad replay) 0
+byHeader (header.Maximum maximum) replay part = recordsFed (replayed (freshReplay maximum) headerSize (drop headerSize part))
 
-unfoldable pub byHeader : Header → Account → List ℕ → List ℕ → List ℕ → After
-byHeader header.Cut account store settings part = after (fedTo (readingAt stage.Header account) 0) store settings
-byHeader header.Bad account store settings part = after (fedTo (readingAt stage.Bad account) 0) store settings
-byHeader (header.Maximum maximum) account store settings part = recordsFed (freshAccount maximum) store settings headerSize (drop headerSize part)
+-- what one call takes of a part (manual 9.1, 9.2)
+unfoldable pub byStage : Stage → Replay → List ℕ → Fed
+byStage stage.Start replay part = byHeader (headerIn part) replay part
+byStage stage.Records replay part = recordsFed (replayed replay 0 part)
+byStage stage.Bad replay part = fedTo (readingAt stage.Bad replay) 0
 
-abbrev pub headerFed : Account → List ℕ → List ℕ → List ℕ → After
-headerFed account store settings part = byHeader (headerIn part) account store settings part
+-- the same of a reading (manual 9.1, 9.2)
+abbrev pub fed : Reading → List ℕ → Fed
+fed reading part = byStage (reading .stage) (reading .replay) part
 
--- what one call takes of a part
-unfoldable pub byStage : Stage → Account → List ℕ → List ℕ → List ℕ → After
-byStage stage.Header account store settings part = headerFed account store settings part
-byStage stage.Records account store settings part = recordsFed account store settings 0 part
-byStage stage.Bad account store settings part = after (fedTo (readingAt stage.Bad account) 0) store settings
+-- the journal is bad, whatever follows (manual 9.3)
+abbrev pub isBadStage : Stage → Bool
+isBadStage stage.Start = false
+isBadStage stage.Records = false
+isBadStage stage.Bad = true
 
-abbrev pub fed : Reading → List ℕ → List ℕ → List ℕ → After
-fed reading store settings part = byStage (reading .stage) (reading .account) store settings part
+-- the same of a reading (manual 9.3)
+abbrev pub isBad : Reading → Bool
+isBad reading = isBadStage (reading .stage)
 
-abbrev pub started : Reading
-started = readingAt stage.Header (freshAccount maxMaximum)
+-- the outcome where no byte is left (manual 9.3, 9.4)
+unfoldable pub concludedAt : Stage → Replay → List ℕ → Written
+concludedAt stage.Start replay out = shown badJournal out
+concludedAt stage.Records replay out = printed (replay .state .account) out
+concludedAt stage.Bad replay out = shown badJournal out
 
--- the outcome, when no more bytes come and some may be left
-unfoldable pub concludedAt : Stage → Account → List ℕ → Written
-concludedAt stage.Header account out = shown badJournal out
-concludedAt stage.Records account out = printed account out
-concludedAt stage.Bad account out = shown badJournal out
-
+-- a journal of which a byte is left is bad: what it begins is cut (manual 9.3)
 unfoldable pub concluded : Reading → ℕ → List ℕ → Written
-concluded reading unused out = if eqb unused 0 then concludedAt (reading .stage) (reading .account) out else shown badJournal out
+concluded reading unused out = if eqb unused 0 then concludedAt (reading .stage) (reading .replay) out else shown badJournal out

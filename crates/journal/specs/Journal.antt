@@ -1,31 +1,23 @@
--- The outcome of a whole journal (document 01, Journal and printout).
+-- The outcome of a whole journal (manual 9.3, 9.4).
 use Prim.Native.Nat.{ℕ}
 use mathlib.Core.List.{List, []}
-use lib.ListN.{replicate}
-use Rattle.packet.specs.Store.{maxPacket}
-use Rattle.settings.specs.Record.{freshSettings, withSettings}
-use Rattle.state.specs.declared.Account.{Account}
-use Rattle.state.specs.Account.{freshAccount}
-use Rattle.record.specs.Records.{Transaction}
-use Rattle.journal.specs.Format.{Journal, bad, good, parsed, badJournal}
-use Rattle.translator.specs.Replay.{carried, replayed}
+use Rattle.prelude.specs.After.{after}
 use Rattle.printout.specs.Printout.{printout}
+use Rattle.record.specs.Transaction.{Transaction}
+use Rattle.state.specs.declared.Account.{Account}
+use Rattle.state.specs.State.{freshState}
+use Rattle.translator.specs.Replay.{allTransacted, emptyStore, settingsAtStart}
+use Rattle.journal.specs.Format.{Journal, bad, good, parsed, badJournal}
 
--- an empty store and a fresh record of settings
-abbrev pub emptyStore : List ℕ
-emptyStore = replicate maxPacket 0
+-- the account that transactions leave, from a fresh state and fresh settings on (manual 9.4)
+abbrev pub accountAfter : ℕ → List Transaction → Account
+accountAfter maximum transactions = allTransacted (after (freshState maximum) emptyStore settingsAtStart) transactions .result .account
 
-abbrev pub freshRecord : List ℕ
-freshRecord = withSettings freshSettings []
-
--- the account of a journal's transactions
-abbrev pub accountOf : ℕ → List Transaction → Account
-accountOf maximum transactions = replayed (carried (freshAccount maximum) emptyStore freshRecord) transactions .account
-
--- what is printed of a journal: its account, or that it is bad
+-- what is printed of a journal: its account, or that it is bad (manual 9.3, 9.4)
 abbrev pub outputOf : Journal → List ℕ
 outputOf bad = badJournal
-outputOf (good maximum transactions) = printout (accountOf maximum transactions)
+outputOf (good maximum transactions) = printout (accountAfter maximum transactions)
 
+-- the same, by its bytes (manual 9.3, 9.4)
 unfoldable pub output : List ℕ → List ℕ
 output bytes = outputOf (parsed bytes)

@@ -1,55 +1,71 @@
--- What follows from the definitions, whatever the bytes (document 01, Journal and printout).
-use Prim.Native.Nat.{ℕ, _≤_}
+-- What follows from the definitions, whatever the bytes (manual 9.1 to 9.4).
+use Prim.Native.Nat.{ℕ, _+_, _≤_, _<_}
+use mathlib.Core.Bool.{true, false}
 use mathlib.Core.List.{List, [], _∷_, _++_}
 use mathlib.Core.Path.{_≡_}
-use lib.ListN.{length, drop}
-use Rattle.state.specs.Account.{maxMaximum}
-use Rattle.record.specs.Records.{Transaction}
-use Rattle.journal.specs.Format.{good, journalOf, parsed}
-use Rattle.journal.specs.Feeding.{After, fed, started, concluded}
-use Rattle.journal.specs.Journal.{emptyStore, freshRecord, output}
+use lib.ListN.{length, getD, drop}
 use Rattle.printout.specs.Printout.{shown}
+use Rattle.record.specs.Records.{headSize}
+use Rattle.record.specs.Transaction.{Transaction}
+use Rattle.state.specs.State.{maxMaximum}
+use Rattle.journal.specs.declared.reading.Fed.{Fed}
 use Rattle.journal.specs.declared.reading.Reading.{Reading}
-use Rattle.journal.specs.declared.reading.Stage.the-variants as stage
+use Rattle.journal.specs.Feeding.{fed, started, isBad, concluded}
+use Rattle.journal.specs.Format.{good, journalOf, parsed, badJournal}
+use Rattle.journal.specs.Journal.{output}
 
--- Exactly what a journal's writer writes is read, and read as what was written: any other bytes are bad.
+-- exactly what a writer writes is read, and read as what was written: any other bytes are bad (manual 9.1, 9.2, 9.3)
 pub record RoundTrip : Type 0 where
   pub written-is-read : (maximum : ℕ) (transactions : List Transaction) → 1 ≤ maximum → maximum ≤ maxMaximum
       → parsed (journalOf maximum transactions) ≡ good maximum transactions
   pub read-was-written : (bytes : List ℕ) (maximum : ℕ) (transactions : List Transaction) → parsed bytes ≡ good maximum transactions
       → (bytes ≡ journalOf maximum transactions) × (1 ≤ maximum) × (maximum ≤ maxMaximum)
 
--- a reading, its store and settings, and the bytes that it has not used yet
+-- a reading, and the bytes that it has not used yet (manual 9.5)
 pub record Progress : Type 0 where
   pub reading : Reading
-  pub store : List ℕ
-  pub settings : List ℕ
   pub unused : List ℕ
 
-abbrev pub progress : After → List ℕ → Progress
-progress a bytes =
-    record { reading = a .result .reading; store = a .store; settings = a .settings; unused = drop (a .result .used) bytes }
+-- both of these, once some bytes were fed (manual 9.5)
+abbrev pub progress : Fed → List ℕ → Progress
+progress f bytes = record { reading = f .reading; unused = drop (f .used) bytes }
 
--- the bytes not used yet are put before the next piece, and fed with it
+-- the bytes not used yet are put before the next piece, and fed with it (manual 9.5)
 abbrev pub fedOn : Progress → List ℕ → Progress
-fedOn p piece = progress (fed (p .reading) (p .store) (p .settings) (p .unused ++ piece)) (p .unused ++ piece)
+fedOn p piece = progress (fed (p .reading) (p .unused ++ piece)) (p .unused ++ piece)
 
+-- one piece after another (manual 9.5)
 unfoldable pub fedPieces : Progress → List (List ℕ) → Progress
 fedPieces p [] = p
 fedPieces p (piece ∷ rest) = fedPieces (fedOn p piece) rest
 
+-- the pieces as one (manual 9.5)
 abbrev pub joined : List (List ℕ) → List ℕ
 joined [] = []
 joined (piece ∷ rest) = piece ++ joined rest
 
-abbrev pub begun : List ℕ → List ℕ → Progress
-begun store settings = record { reading = started; store = store; settings = settings; unused = [] }
+-- before the first (manual 9.5)
+abbrev pub atStart : Progress
+atStart = record { reading = started; unused = [] }
 
--- However a journal is cut into pieces, it is read as the whole is: the same account, store, settings and bytes left. What is bad stays bad, and what is printed in the end is the whole journal's output.
+-- the most bytes of a record: its head, and as much data as its length byte can tell (manual 9.2)
+abbrev pub maxRecord : ℕ
+maxRecord = headSize + 255
+
+-- each of them is a byte (manual 9.2)
+abbrev pub AreBytes : List ℕ → Type 0
+AreBytes bytes = (place : ℕ) → getD bytes place 0 < 256
+
+-- what a reading that is not bad leaves unused is less than a record (manual 9.2)
+abbrev pub LessThanARecord : Type 0
+LessThanARecord = (reading : Reading) (part : List ℕ) → AreBytes part → isBad (fed reading part .reading) ≡ false → length part < fed reading part .used + maxRecord
+
+-- However a journal is cut into pieces, it is read as the whole is: the same replay and bytes left. What is bad stays bad, and what is printed in the end is the whole journal's output (manual 9.3, 9.4).
 pub record InPieces : Type 0 where
   pub two-pieces : (p : Progress) (piece next : List ℕ) → fedOn (fedOn p piece) next ≡ fedOn p (piece ++ next)
-  pub any-pieces : (store settings : List ℕ) (pieces : List (List ℕ)) → fedPieces (begun store settings) pieces ≡ fedOn (begun store settings) (joined pieces)
-  pub bad-stays : (p : Progress) (piece : List ℕ) → p .reading .stage ≡ stage.Bad → fedOn p piece .reading ≡ p .reading
+  pub any-pieces : (pieces : List (List ℕ)) → fedPieces atStart pieces ≡ fedOn atStart (joined pieces)
+  pub bad-stays : (p : Progress) (piece : List ℕ) → isBad (p .reading) ≡ true → fedOn p piece .reading ≡ p .reading
+  pub bad-is-printed : (reading : Reading) (unused : ℕ) (out : List ℕ) → isBad reading ≡ true → concluded reading unused out ≡ shown badJournal out
   pub printed-in-the-end : (pieces : List (List ℕ)) (out : List ℕ) →
-      let p : Progress = fedPieces (begun emptyStore freshRecord) pieces in
+      let p : Progress = fedPieces atStart pieces in
       concluded (p .reading) (length (p .unused)) out ≡ shown (output (joined pieces)) out

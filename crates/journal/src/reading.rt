@@ -1,32 +1,29 @@
 // A journal that is read in pieces.
-use crate::format::HEADER_SIZE;
-use crate::format::Header;
-use crate::format::read_header;
-use state::Account;
+use crate::header::HEADER_SIZE;
+use crate::header::Header;
+use crate::header::read_header;
+use translator::Replay;
 ghost use mathlib.Core.Path.{_≡_};
 ghost use lib.ListN.{drop};
-ghost use Rattle.journal.specs.Feeding.{after, concluded, fed, fedTo, headerFed, readingAt, recordsFed, stageAfter, started};
 ghost use Rattle.printout.specs.Printout.{written, shown};
-ghost use Rattle.journal.specs.Format.{badJournal};
+ghost use Rattle.translator.specs.Replay.{replayed};
+ghost use Rattle.journal.specs.Feeding.{byHeader, concluded, fed, fedTo, isBad, readingAt, recordsFed, stageAfter, started};
+ghost use Rattle.journal.specs.Format.{badJournal, headerIn};
 ghost use Rattle.journal.specs.Journal.{output};
-
-// What a packet needs at most.
-const STORE_SIZE: usize = packet::MAX_PACKET as usize;
 
 pub enum Stage {
     // The header is still to come.
-    Header,
+    Start,
     // The header was good, and so were the records so far.
     Records,
     // The journal is bad, whatever follows.
     Bad,
 }
 
-// What is known of a journal so far. Before its header is read, the account is a fresh one for the
-// largest maximum.
+// What is known of a journal so far. Before its header is read, the replay is for the largest maximum.
 pub struct Reading {
-    pub stage: Stage,
-    pub account: Account,
+    stage: Stage,
+    replay: Replay,
 }
 
 // A reading that went on, and how many bytes of the part it used.
@@ -39,57 +36,47 @@ pub struct Fed {
 pub fn start() -> Reading
     ensures { λ r. ⌜ r ≡ started ⌝ }
 {
-    let made = state::fresh(state::MAX_MAXIMUM as u32);
-    let account = made.account;
     Reading {
-        stage: Stage::Header,
-        account,
+        stage: Stage::Start,
+        replay: translator::start_replay(state::MAX_MAXIMUM as u32),
     }
 }
 
-// Takes the header, if it is still to come, and then each whole record of the part in turn, as one
-// transaction, which counts nothing where it is answered 12, 13 or 14. Stops at a header or record
-// that is cut, which is fed again with the bytes that follow, and for good at a bad header or link
-// byte.
-pub fn feed(reading: Reading, store: &mut [u8], settings: &mut [u8], part: &[u8]) -> Fed
-    ensures { λ r. ⌜ after r (now (store .exit)) (now (settings .exit)) ≡ fed reading (now (store .entry)) (now (settings .entry)) (now (part .entry)) ⌝ }
+// Takes the header, if it is still to come, and then each whole record of the part in turn. Stops at
+// a header or record that is cut, which is fed again with the bytes that follow, and for good at a
+// bad header or link byte.
+pub fn feed(reading: Reading, part: &[u8]) -> Fed
+    ensures { λ r. ⌜ r ≡ fed reading (now (part .entry)) ⌝ }
 {
     let stage = reading.stage;
-    let account = reading.account;
+    let replay = reading.replay;
     match stage {
-        Stage::Header => feed_header(account, store, settings, part),
-        Stage::Records => feed_records(account, store, settings, part, 0),
-        Stage::Bad => stopped(Stage::Bad, account, 0),
+        Stage::Start => feed_header(replay, part),
+        Stage::Records => feed_records(replay, part, 0),
+        Stage::Bad => fed_to(Stage::Bad, replay, 0),
     }
 }
 
-fn feed_header(account: Account, store: &mut [u8], settings: &mut [u8], part: &[u8]) -> Fed
-    ensures { λ r. ⌜ after r (now (store .exit)) (now (settings .exit)) ≡ headerFed account (now (store .entry)) (now (settings .entry)) (now (part .entry)) ⌝ }
+// Takes the header and the records behind it.
+fn feed_header(replay: Replay, part: &[u8]) -> Fed
+    ensures { λ r. ⌜ r ≡ byHeader (headerIn (now (part .entry))) replay (now (part .entry)) ⌝ }
 {
     match read_header(part) {
-        Header::Cut => stopped(Stage::Header, account, 0),
-        Header::Bad => stopped(Stage::Bad, account, 0),
+        Header::Cut => fed_to(Stage::Start, replay, 0),
+        Header::Bad => fed_to(Stage::Bad, replay, 0),
         Header::Maximum(maximum) => {
-            let made = state::fresh(maximum);
-            let account = made.account;
-            feed_records(account, store, settings, part, HEADER_SIZE)
+            feed_records(translator::start_replay(maximum), part, HEADER_SIZE)
         }
     }
 }
 
 // Takes the records from a place of the part on.
-fn feed_records(
-    account: Account,
-    store: &mut [u8],
-    settings: &mut [u8],
-    part: &[u8],
-    from: usize,
-) -> Fed
-    ensures { λ r. ⌜ after r (now (store .exit)) (now (settings .exit)) ≡ recordsFed account (now (store .entry)) (now (settings .entry)) from (drop from (now (part .entry))) ⌝ }
+fn feed_records(replay: Replay, part: &[u8], from: usize) -> Fed
+    ensures { λ r. ⌜ r ≡ recordsFed (replayed replay from (drop from (now (part .entry)))) ⌝ }
 {
-    let replayed = translator::replay(account, store, settings, part, from);
-    let account = replayed.account;
-    stopped(stage_after(replayed.bad_link), account, replayed.at)
+    let replayed = translator::replay_records(replay, part, from);
+    let replay = replayed.replay;
+    fed_to(stage_after(replayed.bad_link), replay, replayed.at)
 }
 
 // A bad link byte is bad for good.
@@ -102,12 +89,24 @@ fn stage_after(bad_link: bool) -> Stage
     Stage::Records
 }
 
-fn stopped(stage: Stage, account: Account, used: usize) -> Fed
-    ensures { λ r. ⌜ r ≡ fedTo (readingAt stage account) used ⌝ }
+fn fed_to(stage: Stage, replay: Replay, used: usize) -> Fed
+    ensures { λ r. ⌜ r ≡ fedTo (readingAt stage replay) used ⌝ }
 {
     Fed {
-        reading: Reading { stage, account },
+        reading: Reading { stage, replay },
         used,
+    }
+}
+
+// Whether the journal is bad, whatever follows.
+pub fn is_bad(reading: Reading) -> bool
+    ensures { λ r. ⌜ r ≡ isBad reading ⌝ }
+{
+    let stage = reading.stage;
+    match stage {
+        Stage::Start => false,
+        Stage::Records => false,
+        Stage::Bad => true,
     }
 }
 
@@ -120,10 +119,10 @@ pub fn conclude(reading: Reading, unused: usize, out: &mut [u8]) -> usize
         return print_bad(out);
     }
     let stage = reading.stage;
-    let account = reading.account;
+    let replay = reading.replay;
     match stage {
-        Stage::Header => print_bad(out),
-        Stage::Records => printout::print(account, out),
+        Stage::Start => print_bad(out),
+        Stage::Records => printout::print(translator::account_of(replay), out),
         Stage::Bad => print_bad(out),
     }
 }
@@ -140,10 +139,7 @@ fn print_bad(out: &mut [u8]) -> usize
 pub fn print_journal(journal: &[u8], out: &mut [u8]) -> usize
     ensures { λ r. ⌜ written r (now (out .exit)) ≡ shown (output (now (journal .entry))) (now (out .entry)) ⌝ }
 {
-    let mut store = [0u8; STORE_SIZE];
-    let mut settings = [0u8; settings::SIZE];
-    settings::fresh(&mut settings);
-    let fed = feed(start(), &mut store, &mut settings, journal);
+    let fed = feed(start(), journal);
     let used = fed.used;
     let reading = fed.reading;
     conclude(reading, journal.len() - used, out)

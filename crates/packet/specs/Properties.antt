@@ -1,4 +1,4 @@
--- What the operations on the store leave alone, whatever the store (document 01, First and Last).
+-- What the operations on the store leave alone, whatever the store (manual 4.1, 4.2).
 use Prim.Native.Nat.{ℕ, _+_, _≤_, _<_}
 use mathlib.Core.List.{List}
 use mathlib.Core.Logic.{_⊎_}
@@ -11,7 +11,7 @@ pub record ChangesOnly (from to : ℕ) (before after : List ℕ) : Type 0 where
   pub same-length : length after ≡ length before
   pub elsewhere : (k : ℕ) → (k < from) ⊎ (to ≤ k) → getD after k 0 ≡ getD before k 0
 
--- "no other byte changes", none past 1536, and "A fragment that takes the total past 1536 writes nothing"
+-- no byte changes but those of the fragment or of the fill, none past 1536, and none at all for a fragment that would end past 1536
 pub record LeavesTheRest : Type 0 where
   pub appending : (store fragment : List ℕ) (at : ℕ) → ChangesOnly at (at + length fragment) store (appended store at fragment)
   pub appending-too-much : (store fragment : List ℕ) (at : ℕ) → maxPacket < at + length fragment → appended store at fragment ≡ store

@@ -1,4 +1,4 @@
--- The lent assembly store: a fragment appended, a packet filled up and shown (document 01, First and Last).
+-- The lent assembly store: a fragment appended, a packet filled up and shown (manual 4).
 use Prim.Native.Nat.{ℕ, _+_, _-_}
 use mathlib.Core.List.{List}
 use lib.Dec.{ltb}
@@ -7,22 +7,26 @@ use denote.Ref.{RefT, now}
 use Rattle.prelude.specs.Choice.{if_then_else_}
 use Rattle.prelude.specs.Parts.{Slice, put, partOf}
 
--- "an assembly store of at least 1536 bytes"; a packet of more is over
+-- the most bytes of a packet, and the least bytes of a store (manual 1.5, 3.6)
 abbrev pub maxPacket : ℕ
 maxPacket = 1536
 
--- "a packet below 64 bytes is filled up with zeros to 64"
+-- the least bytes of a packet that is sent (manual 3.6)
+abbrev pub minPacket : ℕ
+minPacket = 17
+
+-- a shorter packet is filled up to this (manual 4.3)
 abbrev pub minSent : ℕ
 minSent = 64
 
--- "written into the part of the store that starts at the bytes so far; no other byte changes. A fragment that takes the total past 1536 writes nothing"
+-- a fragment goes behind the bytes so far, and is not written where it would end past 1536 (manual 4.1, 4.2)
 unfoldable pub appended : List ℕ → ℕ → List ℕ → List ℕ
 appended store at fragment =
     if ltb maxPacket (at + length fragment) then store else
     if ltb (length store) (at + length fragment) then store else
     put store at fragment
 
--- "filled up with zeros to 64 and its sent length is 64; otherwise the sent length is the total"
+-- zeros behind a packet that is sent (manual 4.3)
 unfoldable pub filled : List ℕ → ℕ → List ℕ
 filled store total =
     if ltb total minSent then
@@ -30,10 +34,11 @@ filled store total =
     put store total (replicate (minSent - total) 0))
     else store
 
+-- how many bytes are sent (manual 4.3)
 unfoldable pub sentLength : ℕ → ℕ
 sentLength total = if ltb total minSent then minSent else total
 
--- "The sent packet is shown as a part of the lent store, its first bytes up to a length asked for; a length above the store or above 1536 shows an empty part."
+-- the first bytes, or an empty part where so many are not there or not allowed (manual 4.4)
 unfoldable pub shown : RefT (List ℕ) → ℕ → Slice
 shown store size =
     if ltb (length (now store)) size then partOf 0 0 store else

@@ -8,6 +8,9 @@ ghost use Rattle.packet.specs.Store.{sentLength as Store·sentLength, sh
 // The most bytes of a packet.
 pub const MAX_PACKET: u64 = 1536;
 
+// A packet of fewer bytes is too short to be sent.
+pub const MIN_PACKET: u64 = 17;
+
 // A shorter packet is filled up to this before it is sent.
 pub const MIN_SENT: u64 = 64;
 
@@ -55,17 +58,17 @@ pub fn sent_length(total: u64) -> u64
     total
 }
 
-// The first `length` bytes of the store, or an empty part where it has fewer or they are more than
+// The first `size` bytes of the store, or an empty part where it has fewer or they are more than
 // MAX_PACKET.
-pub fn shown(store: &[u8], length: u64) -> &[u8]
-    ensures { λ r. ⌜ sliceOf r ≡ Store·shown (store .entry) length ⌝ }
+pub fn shown(store: &[u8], size: u64) -> &[u8]
+    ensures { λ r. ⌜ sliceOf r ≡ Store·shown (store .entry) size ⌝ }
 {
-    if (store.len() as u64) < length {
+    if (store.len() as u64) < size {
         return &store[0..0];
     }
-    if MAX_PACKET < length {
+    if MAX_PACKET < size {
         return &store[0..0];
     }
-    let end = length as usize;
+    let end = size as usize;
     &store[0..end]
 }

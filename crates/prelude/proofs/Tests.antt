@@ -3,6 +3,7 @@
 -- Assumes nothing.
 use Prim.Native.Nat.{ℕ}
 use mathlib.Core.Bool.{Bool, true, false}
+use mathlib.Core.Logic.{_⊎_, inl, inr}
 use mathlib.Core.Path.{_≡_, refl, sym}
 use lib.Dec.{eqb}
 use borrow.Author.Needs.{needs}
@@ -57,5 +58,13 @@ eqb-iff a b c d to from = by-test (eqb a b) refl
     by-test : (t : Bool) → eqb a b ≡ t → t ≡ eqb c d
     by-test true e = sym (eq-eqb c d (to (eqb-true a b e)))
     by-test false e = sym (ne-eqb c d (λ q. eqb-false a b e (from q)))
+
+-- a number is another, or it is not
+pub same-or-not : (m n : ℕ) → (m ≡ n) ⊎ (m ≡ n → ⊥)
+same-or-not m n = by-test (eqb m n) refl
+  where
+    by-test : (t : Bool) → eqb m n ≡ t → (m ≡ n) ⊎ (m ≡ n → ⊥)
+    by-test true e = inl (eqb-true m n e)
+    by-test false e = inr (eqb-false m n e)
 
 pub ruleset tests = (needs, if-true, if-false, lt-ltb, le-ltb, le-leb, lt-leb, eq-eqb, ne-eqb, eqb-other, not-true, not-false)

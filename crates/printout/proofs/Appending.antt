@@ -8,7 +8,7 @@ use lib.ListN.{length, take, drop, length-append}
 use lib.Seq.{take-at, length-take-le}
 use Rattle.prelude.specs.Parts.{put}
 use Rattle.prelude.proofs.Lists.{copied-into-tail}
-use Rattle.printout.specs.Appending.{Appends, nameOf}
+use Rattle.printout.specs.Appending.{Appends, nameOf, maxName}
 
 pub put-appends : (text piece : List ℕ) (at : ℕ) → at + length piece ≤ length text → Appends at (length piece) (at + length piece) text (put text at piece) piece
 unfolding put
@@ -42,7 +42,7 @@ then-appends {at} {before = before} {piece = piece} {next = next} most p q room 
 pub as-appends : {at most end : ℕ} {before after piece same : List ℕ} → piece ≡ same → Appends at most end before after piece → Appends at most end before after same
 as-appends {at} {before = before} e p = record { bounded = p .bounded; content = p .content ∙ ap (λ (l : List ℕ). take at before ++ l) e }
 
-pub name-appends : {at most end : ℕ} {before after : List ℕ} (row known : ℕ) → row ≡ known → Appends at most end before after (nameOf known) → most ≤ 10
-    → Appends at 10 end before after (nameOf row)
+pub name-appends : {at most end : ℕ} {before after : List ℕ} (row known : ℕ) → row ≡ known → Appends at most end before after (nameOf known) → most ≤ maxName
+    → Appends at maxName end before after (nameOf row)
 name-appends {at} {most} {end} {before} {after} row known e p room =
     record { bounded = omega (arith, p .bounded); content = p .content ∙ ap (λ (n : ℕ). take at before ++ nameOf n) (sym e) }

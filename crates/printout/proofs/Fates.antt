@@ -8,25 +8,18 @@ use native.Mathlib.Numerals.{add-one}
 use native.Mathlib.Omega.{arith}
 use lib.ListN.{getD, take, drop}
 use lib.Seq.{drop-cons}
-use Rattle.printout.specs.Appending.{Appends, nameOf}
+use Rattle.state.specs.Account.{rowCount}
+use Rattle.state.proofs.Rows.{nine}
+use Rattle.printout.specs.Appending.{Appends, nameOf, maxFate}
 use Rattle.printout.specs.Printout.{lineOf, fates, cellsOf, fateLines}
 
 -- the names stand in the order of the rows
-row-of : (row : ℕ) → row < 9 → getD fates row ("", 0) .1 ≡ row
-row-of zero h = refl
-row-of (suc zero) h = refl
-row-of (suc (suc zero)) h = refl
-row-of (suc (suc (suc zero))) h = refl
-row-of (suc (suc (suc (suc zero)))) h = refl
-row-of (suc (suc (suc (suc (suc zero))))) h = refl
-row-of (suc (suc (suc (suc (suc (suc zero)))))) h = refl
-row-of (suc (suc (suc (suc (suc (suc (suc zero))))))) h = refl
-row-of (suc (suc (suc (suc (suc (suc (suc (suc zero)))))))) h = refl
-row-of (suc (suc (suc (suc (suc (suc (suc (suc (suc row))))))))) h = absurd (omega arith)
+row-of : (row : ℕ) → row < rowCount → getD fates row ("", 0) .1 ≡ row
+row-of = nine (λ (row : ℕ). getD fates row ("", 0) .1 ≡ row) refl refl refl refl refl refl refl refl refl
 
 -- one line on
-pub fate-on : {end next : ℕ} {text after whole : List ℕ} (grid : List ℕ) (row : ℕ) → row < 9
-    → Appends end 74 next text after (lineOf (nameOf row) (cellsOf row grid)) → take end text ++ fateLines (drop row fates) grid ≡ whole
+pub fate-on : {end next : ℕ} {text after whole : List ℕ} (grid : List ℕ) (row : ℕ) → row < rowCount
+    → Appends end maxFate next text after (lineOf (nameOf row) (cellsOf row grid)) → take end text ++ fateLines (drop row fates) grid ≡ whole
     → take next after ++ fateLines (drop (row + 1) fates) grid ≡ whole
 unfolding fateLines
 fate-on {end} {text = text} grid row h p e =
@@ -41,9 +34,9 @@ fate-on {end} {text = text} grid row h p e =
 past-four : (row from : ℕ) → from ≤ row → (row ≡ from → ⊥) → (row ≡ from + 1 → ⊥) → (row ≡ from + 2 → ⊥) → (row ≡ from + 3 → ⊥) → from + 4 ≤ row
 past-four row from h a b c d = omega arith
 
-eight : (row : ℕ) → 8 ≤ row → row < 9 → row ≡ 8
+eight : (row : ℕ) → 8 ≤ row → row < rowCount → row ≡ 8
 eight row low high = omega arith
 
-pub last-row : (row : ℕ) → row < 9 → (row ≡ 0 → ⊥) → (row ≡ 1 → ⊥) → (row ≡ 2 → ⊥) → (row ≡ 3 → ⊥) → (row ≡ 4 → ⊥) → (row ≡ 5 → ⊥) → (row ≡ 6 → ⊥) → (row ≡ 7 → ⊥)
+pub last-row : (row : ℕ) → row < rowCount → (row ≡ 0 → ⊥) → (row ≡ 1 → ⊥) → (row ≡ 2 → ⊥) → (row ≡ 3 → ⊥) → (row ≡ 4 → ⊥) → (row ≡ 5 → ⊥) → (row ≡ 6 → ⊥) → (row ≡ 7 → ⊥)
     → row ≡ 8
 last-row row h a b c d e f g i = eight row (past-four row 4 (past-four row 0 zero-le a b c d) e f g i) h

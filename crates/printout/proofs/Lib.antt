@@ -1,3 +1,5 @@
 pub mod Appending
 pub mod Decimal
 pub mod Fates
+pub mod Lengths
+pub mod Unique

@@ -11,9 +11,10 @@ use lib.ListN.{length, getD, take, drop, length-drop}
 use lib.Seq.{getD-drop, drop-drop, length-take-le}
 use borrow.Author.Tests.{ltb-true, ltb-false, lt-ltb, le-ltb}
 use Rattle.prelude.proofs.Tests.{if-true, if-false, if-cases}
-use Rattle.record.specs.Records.{Records, none, one, transaction, recordsAfter, recordsIn, entryAt}
-use Rattle.record.specs.declared.Entry.{Entry}
-use Rattle.record.specs.declared.Entry.the-variants as entry
+use Rattle.record.specs.Records.{Records, none, one, recordsAfter, recordsIn, foundAt}
+use Rattle.record.specs.Transaction.{transaction}
+use Rattle.record.specs.declared.Found.{Found}
+use Rattle.record.specs.declared.Found.the-variants as found
 
 -- what is skipped may as well be dropped
 pub after-skip : (n : ℕ) (bytes : List ℕ) → n ≤ length bytes → recordsAfter n bytes ≡ recordsIn (drop n bytes)
@@ -51,24 +52,24 @@ cut-data (x ∷ y ∷ []) h e l = absurd (omega arith)
 cut-data (x ∷ y ∷ z ∷ rest) h e l = if-false _ _ _ e ∙ if-true _ _ _ (lt-ltb (length rest) z (omega arith))
 
 whole : (xs : List ℕ) → 3 ≤ length xs → ltb 1 (getD xs 1 0) ≡ false → getD xs 2 0 ≤ length xs - 3
-    → recordsIn xs ≡ one (transaction (getD xs 0 0) (eqb (getD xs 1 0) 1) (take (getD xs 2 0) (drop 3 xs))) (recordsIn (drop (getD xs 2 0) (drop 3 xs)))
+    → recordsIn xs ≡ one (transaction (getD xs 0 0) (take (getD xs 2 0) (drop 3 xs)) (eqb (getD xs 1 0) 1)) (recordsIn (drop (getD xs 2 0) (drop 3 xs)))
 unfolding recordsAfter
 whole [] h e l = absurd (omega arith)
 whole (x ∷ []) h e l = absurd (omega arith)
 whole (x ∷ y ∷ []) h e l = absurd (omega arith)
 whole (x ∷ y ∷ z ∷ rest) h e l =
     let inside : z ≤ length rest = omega arith in
-    if-false _ _ _ e ∙ (if-false _ _ _ (le-ltb _ _ inside) ∙ ap (one (transaction x (eqb y 1) (take z rest))) (after-skip z rest inside))
+    if-false _ _ _ e ∙ (if-false _ _ _ (le-ltb _ _ inside) ∙ ap (one (transaction x (take z rest) (eqb y 1))) (after-skip z rest inside))
 
 -- the records from a place on, by what stands there
-abbrev pub byEntry : List ℕ → Entry → Records
-byEntry bytes entry.Cut = none false
-byEntry bytes entry.BadLink = none true
-byEntry bytes (entry.Whole command linkUp start end) = one (transaction command linkUp (take (end - start) (drop start bytes))) (recordsIn (drop end bytes))
+abbrev pub byFound : List ℕ → Found → Records
+byFound bytes found.Cut = none false
+byFound bytes found.BadLink = none true
+byFound bytes (found.Whole command linkUp start end) = one (transaction command (take (end - start) (drop start bytes)) linkUp) (recordsIn (drop end bytes))
 
-pub records-by-entry : (bytes : List ℕ) (at : ℕ) → recordsIn (drop at bytes) ≡ byEntry bytes (entryAt bytes at)
-unfolding entryAt
-records-by-entry bytes at =
+pub records-by-found : (bytes : List ℕ) (at : ℕ) → recordsIn (drop at bytes) ≡ byFound bytes (foundAt bytes at)
+unfolding foundAt
+records-by-found bytes at =
     if-cases P _ _ _ (λ past. too-few (drop at bytes) (omega (arith, left, ltb-true)))
     (λ _. if-cases P _ _ _ (λ few. too-few (drop at bytes) (omega (arith, left, ltb-true)))
     (λ two. if-cases P _ _ _ (λ up. bad-link (drop at bytes) (omega (arith, left, ltb-false)) (link true up))
@@ -81,8 +82,8 @@ records-by-entry bytes at =
     cancel : at + 3 + getD bytes (at + 2) 0 - (at + 3) ≡ getD bytes (at + 2) 0
     cancel = omega arith
 
-    P : Entry → Type 0
-    P e = recordsIn (drop at bytes) ≡ byEntry bytes e
+    P : Found → Type 0
+    P e = recordsIn (drop at bytes) ≡ byFound bytes e
 
     left : length (drop at bytes) ≡ length bytes - at
     left = length-drop at bytes
@@ -99,8 +100,8 @@ pub record WholeAt (bytes : List ℕ) (at start end : ℕ) : Type 0 where
   pub forward : start ≤ end
   pub inside : end ≤ length bytes
 
-pub whole-at : (bytes : List ℕ) (at command : ℕ) (linkUp : Bool) (start end : ℕ) → entryAt bytes at ≡ entry.Whole command linkUp start end → WholeAt bytes at start end
-unfolding entryAt
+pub whole-at : (bytes : List ℕ) (at command : ℕ) (linkUp : Bool) (start end : ℕ) → foundAt bytes at ≡ found.Whole command linkUp start end → WholeAt bytes at start end
+unfolding foundAt
 whole-at bytes at command linkUp start end =
     if-cases P _ _ _ (λ _ e. absurd (never-cut e))
     (λ _. if-cases P _ _ _ (λ _ e. absurd (never-cut e))
@@ -112,13 +113,13 @@ whole-at bytes at command linkUp start end =
     let d : end ≡ at + 3 + getD bytes (at + 2) 0 = cc in
     record { starts = s; forward = omega arith; inside = omega (arith, ltb-false) })))))
   where
-    P : Entry → Type 0
-    P found = found ≡ entry.Whole command linkUp start end → WholeAt bytes at start end
+    P : Found → Type 0
+    P f = f ≡ found.Whole command linkUp start end → WholeAt bytes at start end
 
-    never-cut : entry.Cut ≡ entry.Whole command linkUp start end → ⊥
+    never-cut : found.Cut ≡ found.Whole command linkUp start end → ⊥
     never-cut e = let z : _≡_ {A = ℕ} 0 1 = cc in omega arith
 
-    never-bad : entry.BadLink ≡ entry.Whole command linkUp start end → ⊥
+    never-bad : found.BadLink ≡ found.Whole command linkUp start end → ⊥
     never-bad e = let z : _≡_ {A = ℕ} 0 1 = cc in omega arith
 
 -- what is used is there, and more where a bad link byte comes next
@@ -146,7 +147,7 @@ used-within zero (command ∷ link ∷ size ∷ rest) h =
     P : Records → Type 0
     P = Within zero (command ∷ link ∷ size ∷ rest)
 
-    whole-within : size ≤ length rest → Within size rest (recordsAfter size rest) → P (one (transaction command (eqb link 1) (take size rest)) (recordsAfter size rest))
+    whole-within : size ≤ length rest → Within size rest (recordsAfter size rest) → P (one (transaction command (take size rest) (eqb link 1)) (recordsAfter size rest))
     whole-within inside w =
         let long : length (take size rest) ≡ size = length-take-le size rest inside in
         record { within = omega arith; left = λ e. omega (arith, w .left e) }

@@ -12,7 +12,8 @@ use lib.Seq.{length-take-le, take-append-le}
 use borrow.Author.Tests.{ltb-false, le-ltb}
 use Rattle.prelude.specs.Choice.{if_then_else_}
 use Rattle.prelude.proofs.Tests.{if-true, if-false}
-use Rattle.record.specs.Records.{Transaction, Records, none, one, transaction, recordsAfter, recordsIn}
+use Rattle.record.specs.Records.{Records, none, one, recordsAfter, recordsIn}
+use Rattle.record.specs.Transaction.{Transaction, transaction}
 use Rattle.record.proofs.Records.{bad-link}
 
 -- records and then more, unless a bad link byte ends them
@@ -65,7 +66,7 @@ records-append zero (command ∷ link ∷ size ∷ rest) more h = by-link (λ in
     part = command ∷ link ∷ size ∷ rest
 
     x : Transaction
-    x = transaction command (eqb link 1) (take size rest)
+    x = transaction command (take size rest) (eqb link 1)
 
     Rest : Type 0
     Rest = size ≤ length rest → recordsAfter size (rest ++ more) ≡ resumed size rest more (recordsAfter size rest)
@@ -81,7 +82,7 @@ records-append zero (command ∷ link ∷ size ∷ rest) more h = by-link (λ in
         let place : suc (suc (suc (size + after .used))) ≡ 0 + (3 + length (take size rest) + after .used) = omega arith in
         if-false _ _ _ l
         ∙ (if-false _ _ _ (le-ltb _ _ longer)
-        ∙ (ap (λ (d : List ℕ). one (transaction command (eqb link 1) d) (recordsAfter size (rest ++ more))) (take-append-le size rest more inside)
+        ∙ (ap (λ (d : List ℕ). one (transaction command d (eqb link 1)) (recordsAfter size (rest ++ more))) (take-append-le size rest more inside)
         ∙ (ap (one x) (r inside)
         ∙ (sym (one-then x after (recordsIn (drop (size + after .used) rest ++ more)))
         ∙ (ap (λ (n : ℕ). andThen (one x after) (recordsIn (drop n part ++ more))) place

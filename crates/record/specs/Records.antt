@@ -1,28 +1,20 @@
--- The records of a journal (document 01, Journal and printout, and A transaction).
+-- The records of a journal, as they are written and read (manual 9.2).
 use Prim.Native.Nat.{ℕ, zero, suc, _+_, _-_}
 use mathlib.Core.Bool.{Bool, true, false}
 use mathlib.Core.List.{List, [], _∷_, _++_}
 use lib.Dec.{eqb, ltb}
 use lib.ListN.{length, getD, take}
 use Rattle.prelude.specs.Choice.{if_then_else_}
-use Rattle.record.specs.declared.Entry.{Entry}
-use Rattle.record.specs.declared.Entry.the-variants as entry
+use Rattle.record.specs.declared.Found.{Found}
+use Rattle.record.specs.declared.Found.the-variants as found
+use Rattle.record.specs.Transaction.{Transaction, transaction}
 
--- "A transaction is a command byte, its data bytes, and whether the link is up at that moment."
-pub record Transaction : Type 0 where
-  pub command : ℕ
-  pub linkUp : Bool
-  pub bytes : List ℕ
-
-abbrev pub transaction : ℕ → Bool → List ℕ → Transaction
-transaction command linkUp bytes = record { command = command; linkUp = linkUp; bytes = bytes }
-
--- "link (0 or 1)"
+-- the link byte
 abbrev pub linkByte : Bool → ℕ
 linkByte true = 1
 linkByte false = 0
 
--- What a writer writes, over numbers: where each is below 256 it is bytes, and a record has at most 255 bytes of data. "Record, a byte each: command, link (0 or 1), length; then that many bytes."
+-- what a writer writes, over numbers: they are bytes where each is below 256, and a record has at most 255 bytes of data
 abbrev pub recordOf : Transaction → List ℕ
 recordOf t = t .command ∷ linkByte (t .linkUp) ∷ length (t .bytes) ∷ t .bytes
 
@@ -34,15 +26,15 @@ recordsOf (t ∷ rest) = recordOf t ++ recordsOf rest
 abbrev pub headSize : ℕ
 headSize = 3
 
--- How it is read: what stands at a place of some bytes, taken as a record. The link byte is judged as soon as it is there
-unfoldable pub entryAt : List ℕ → ℕ → Entry
-entryAt bytes at =
-    if ltb (length bytes) at then entry.Cut else
-    if ltb (length bytes - at) 2 then entry.Cut else
-    if ltb 1 (getD bytes (at + 1) 0) then entry.BadLink else
-    if ltb (length bytes - at) headSize then entry.Cut else
-    if ltb (length bytes - at - headSize) (getD bytes (at + 2) 0) then entry.Cut else
-    entry.Whole (getD bytes at 0) (eqb (getD bytes (at + 1) 0) 1) (at + headSize) (at + headSize + getD bytes (at + 2) 0)
+-- how it is read: what stands at a place of some bytes, taken as a record; the link byte is judged as soon as it is there (manual 9.3)
+unfoldable pub foundAt : List ℕ → ℕ → Found
+foundAt bytes at =
+    if ltb (length bytes) at then found.Cut else
+    if ltb (length bytes - at) 2 then found.Cut else
+    if ltb 1 (getD bytes (at + 1) 0) then found.BadLink else
+    if ltb (length bytes - at) headSize then found.Cut else
+    if ltb (length bytes - at - headSize) (getD bytes (at + 2) 0) then found.Cut else
+    found.Whole (getD bytes at 0) (eqb (getD bytes (at + 1) 0) 1) (at + headSize) (at + headSize + getD bytes (at + 2) 0)
 
 -- the whole records that some bytes begin with, how many bytes they are, and whether a bad link byte comes next
 pub record Records : Type 0 where
@@ -71,7 +63,7 @@ recordsAfter zero (command ∷ link ∷ []) = none (ltb 1 link)
 recordsAfter zero (command ∷ link ∷ size ∷ rest) =
     if ltb 1 link then none true else
     if ltb (length rest) size then none false else
-    one (transaction command (eqb link 1) (take size rest)) (recordsAfter size rest)
+    one (transaction command (take size rest) (eqb link 1)) (recordsAfter size rest)
 
 abbrev pub recordsIn : List ℕ → Records
 recordsIn bytes = recordsAfter 0 bytes

@@ -1,4 +1,4 @@
--- The decision on Set Link: its checks in order (document 01, Set Link, "Checks in order, answer as response/reason").
+-- The decision on Set Link: its checks, one after the other (manual 7.3).
 use Prim.Native.Nat.{ℕ, _/_, _^_}
 use mathlib.Core.Bool.{Bool}
 use lib.Dec.{eqb, ltb}
@@ -9,7 +9,7 @@ use Rattle.setlink.specs.declared.Media.the-variants.{Copper}
 use Rattle.setlink.specs.declared.Decision.{Decision}
 use Rattle.setlink.specs.Word.{autoNegotiation, speed1000, speed10G, halfDuplex, noSpeed, speeds, duplexes, pairs, anyFits}
 
--- response codes of DSP0222
+-- response codes of DSP0222 (manual 7.3)
 abbrev pub completed : ℕ
 completed = 0x0000
 
@@ -35,11 +35,11 @@ parameterConflict = 0x0903
 abbrev pub speedConflict : ℕ
 speedConflict = 0x0905
 
--- check 3, "Auto-negotiation: refused .. exactly when no selected speed and selected duplex form a valid pair."; "Valid for the device means valid on copper."
+-- check 3: auto-negotiation wants a pair that copper takes, whatever the medium (manual 7.2, 7.3)
 unfoldable pub negotiatedReason : ℕ → ℕ
 negotiatedReason word = if anyFits Copper word pairs then noReason else invalidParameter
 
--- check 4, "Forced: more than one speed 0x0905; not exactly one duplex 0x0002 (none is house); 1000 or 10G with half 0x0903; 10G with full 0x0002 (house)."
+-- check 4: a forced link wants one speed, one duplex, no half duplex from 1000 up, and not 10G (manual 7.3)
 unfoldable pub forcedReason : ℕ → ℕ
 forcedReason word =
     if ltb 1 (speeds word) then speedConflict else
@@ -56,7 +56,7 @@ forcedReason word =
 unfoldable pub parameterReason : ℕ → ℕ
 parameterReason word = if isSet autoNegotiation word then negotiatedReason word else forcedReason word
 
--- why a word is refused, or no reason: check 1, "Host driver present"; check 2, "Any of bits 5 to 7 or 12 to 31 set (house), or no speed"; checks 3 and 4; check 5, "No selected valid pair fits the media".
+-- why a word is refused, or no reason: checks 1 to 5 (manual 7.3)
 -- A word has 32 bits, so that bits 12 to 31 are what its division by 2 ^ 12 leaves.
 unfoldable pub reason : ℕ → Bool → Media → ℕ
 reason word hostPresent media =
@@ -68,12 +68,12 @@ reason word hostPresent media =
     if anyFits media word pairs then noReason else
     mediaConflict
 
--- check 6, "Else 0x0000/0x0000, and the word becomes the setting in force. A refusal keeps the old word."
+-- check 6: a word that passes all checks comes into force, and a refusal keeps the word in force (manual 7.4)
 unfoldable pub decided : ℕ → ℕ → Bool → Media → Decision
 decided inForce word hostPresent media =
     if eqb (reason word hostPresent media) noReason then record { response = completed; reason = noReason; «in_force» = word } else
     record { response = failed; reason = reason word hostPresent media; «in_force» = inForce }
 
--- "The fresh word is 0, and any old word is taken as it is."
+-- the word in force before the first Set Link (manual 7.4)
 abbrev pub freshWord : ℕ
 freshWord = 0

@@ -1,4 +1,4 @@
--- What the decision does with the word in force, whatever the words, the host and the medium (document 01, Set Link, check 6).
+-- What the decision does with the word in force, whatever the words, the host and the medium (manual 7.4).
 use Prim.Native.Nat.{ℕ}
 use mathlib.Core.Bool.{Bool}
 use mathlib.Core.Logic.{_⊎_}

@@ -1,4 +1,4 @@
--- The word of Set Link: what its bits select, and the pairs of speed and duplex that a medium takes (document 01, Set Link; the bits are DSP0222's).
+-- The word of Set Link: what its bits select, and the pairs of speed and duplex that a medium takes (manual 7.1, 7.2).
 use Prim.Native.Nat.{ℕ, _+_}
 use mathlib.Core.Bool.{Bool, true, false}
 use mathlib.Core.List.{List, [], _∷_}
@@ -9,7 +9,7 @@ use Rattle.setlink.specs.declared.Media.{Media}
 use Rattle.setlink.specs.declared.Media.the-variants.{Copper, Fibre}
 use Rattle.setlink.specs.declared.Pair.{Pair}
 
--- "0 auto-negotiation, 1 to 4 speeds 10, 100, 1000, 10G, 8 half, 9 full, 10 and 11 pause": no check reads the pause bits
+-- the bits that the checks read; none reads the pause bits (manual 7.1)
 abbrev pub autoNegotiation : ℕ
 autoNegotiation = 0
 
@@ -42,7 +42,7 @@ speeds word = bits speed10 1 word + bits speed100 1 word + bits speed1000 1 word
 abbrev pub duplexes : ℕ → ℕ
 duplexes word = bits halfDuplex 1 word + bits fullDuplex 1 word
 
--- "copper takes 10 and 100 in both duplexes and 1000 full; fibre takes 1000 full": the pairs that copper takes, each by its bits, with whether fibre takes it too
+-- the pairs that copper takes, each by its bits, with whether fibre takes it too (manual 7.2)
 abbrev pub pairs : List Pair
 pairs =
     record { speed = speed10; duplex = halfDuplex; fibre = false }

@@ -58,7 +58,9 @@ struct Pair {
     fibre: bool,
 }
 
-const PAIRS: [Pair; 5] = [
+const PAIR_COUNT: usize = 5;
+
+const PAIRS: [Pair; PAIR_COUNT] = [
     Pair {
         speed: SPEED_10,
         duplex: HALF_DUPLEX,
@@ -184,7 +186,7 @@ fn any_pair_fits(word: u32, media: Media) -> bool
     ensures { λ r. ⌜ r ≡ anyFits media word pairs ⌝ }
 {
     let mut i: usize = 0;
-    while i < 5 {
+    while i < PAIR_COUNT {
         let pair = PAIRS[i];
         if pair_fits(word, media, pair) {
             return true;
@@ -195,7 +197,8 @@ fn any_pair_fits(word: u32, media: Media) -> bool
 }
 
 fn pair_fits(word: u32, media: Media, pair: Pair) -> bool
-    requires { ⌜ (pair .speed < 32) × (pair .duplex < 32) ⌝ }
+    requires { ⌜ pair .speed < 32 ⌝ }
+    requires { ⌜ pair .duplex < 32 ⌝ }
     ensures { λ r. ⌜ r ≡ fits media word pair ⌝ }
 {
     if !takes_pair(media, pair) {

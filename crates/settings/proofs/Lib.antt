@@ -1,3 +1,5 @@
+pub mod Bytes
 pub mod Properties
 pub mod Sound
 pub mod Writes
+pub mod Unique

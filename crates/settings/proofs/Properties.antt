@@ -15,8 +15,9 @@ use Rattle.prelude.specs.Choice.{if_then_else_, _or_}
 use Rattle.prelude.proofs.Lists.{length-part, drop-past}
 use Rattle.prelude.proofs.Tests.{if-true, if-false, if-cases}
 use Rattle.settings.specs.declared.enable.Enabled.{Enabled}
-use Rattle.settings.specs.declared.enable.Enabled.the-variants.{TooShort, NotSound, BadLength, BadControl, NoMac, Taken}
-use Rattle.settings.specs.Record.{Settings, size, allowed, hasItsMac, sound, settingsIn, withSettings, freshSettings, keptBits, hasDedicatedMac}
+use Rattle.settings.specs.declared.enable.Enabled.the-variants.{Taken, Refused}
+use Rattle.settings.specs.declared.enable.Refusal.the-variants.{TooShort, NotSound, BadForm, BadControl, NoMac}
+use Rattle.settings.specs.Layout.{Settings, size, allowed, hasItsMac, sound, settingsIn, withSettings, freshSettings, keptBits, hasDedicatedMac}
 use Rattle.settings.specs.Enable.{numberOf, answered, shortFormSize, longFormSize, shortForm, longForm, shortFormAnswered, longFormAnswered, receiveEnabled, freshened}
 use Rattle.settings.specs.Properties.{Recodes, KeepsTheRest, Enables, EveryEnable, Freshens, EveryFresh}
 use Rattle.settings.proofs.Sound.{Sound, sound-tells}
@@ -54,10 +55,10 @@ given-mac-is-kept control macKept addressKept =
     asked false = if-false _ _ _ refl
 
 -- settings whose addresses have their sizes
-record Sized (s : Settings) : Type 0 where
-  mac : length (s .mac) ≡ 6
-  ipv4 : length (s .ipv4) ≡ 4
-  unread : length (s .unread) ≡ 3
+pub record Sized (s : Settings) : Type 0 where
+  pub mac : length (s .mac) ≡ 6
+  pub ipv4 : length (s .ipv4) ≡ 4
+  pub unread : length (s .unread) ≡ 3
 
 module _ (s : Settings) (bytes : List ℕ) (sized : Sized s) (room : size ≤ length bytes) where
   settings-keep-the-rest : KeepsTheRest bytes (withSettings s bytes)
@@ -91,7 +92,7 @@ module _ (bytes : List ℕ) (room : size ≤ length bytes) where
   short-form-sized : (control : ℕ) → Sized (shortForm (settingsIn bytes) control)
   short-form-sized control = record { mac = settings-in-sized .mac; ipv4 = settings-in-sized .ipv4; unread = settings-in-sized .unread }
 
-  long-form-sized : (form : List ℕ) → length form ≡ 14 → Sized (longForm (settingsIn bytes) form)
+  pub long-form-sized : (form : List ℕ) → length form ≡ 14 → Sized (longForm (settingsIn bytes) form)
   long-form-sized form long = record {
     mac = length-chosen _ _ _ 6 (length-part 1 6 form (omega arith)) (settings-in-sized .mac);
     ipv4 = length-chosen _ _ _ 4 (length-part 7 4 form (omega arith)) (settings-in-sized .ipv4);
@@ -118,8 +119,8 @@ module _ (settings bytes : List ℕ) where
         (λ m. changed _ (settings-keep-the-rest after settings sized (s .has-room))
         (settings-sound after settings sized (s .has-room) a (rw (kept-bits-recoded (getD settings 1 0) (s .kept-is-bits)) m))
         (λ _. rw (← one-byte) (drop-set-lt 1 settings 0 control (omega arith))))
-        (λ _. unchanged NoMac refl))
-        (λ _. unchanged BadControl refl)
+        (λ _. unchanged (Refused NoMac) refl))
+        (λ _. unchanged (Refused BadControl) refl)
 
     long-form-enables : length bytes ≡ longFormSize → Enables settings bytes (longFormAnswered settings bytes)
     unfolding longFormAnswered
@@ -130,20 +131,20 @@ module _ (settings bytes : List ℕ) where
         (λ a. changed _ (settings-keep-the-rest after settings sized (s .has-room))
         (settings-sound after settings sized (s .has-room) a (given-mac-is-kept (getD bytes 0 0) (settingsIn settings .macKept) (after .addressKept)))
         (λ short. absurd (omega arith)))
-        (λ _. unchanged BadControl refl)
+        (λ _. unchanged (Refused BadControl) refl)
 
 pub every-enable : EveryEnable
 unfolding receiveEnabled
 every-enable settings bytes =
     if-cases (Enables settings bytes) _ _ _
-    (λ _. unchanged settings bytes TooShort refl)
+    (λ _. unchanged settings bytes (Refused TooShort) refl)
     (λ _. if-cases (Enables settings bytes) _ _ _
     (λ s. if-cases (Enables settings bytes) _ _ _
     (λ _. short-form-enables settings bytes (sound-tells settings s) (getD bytes 0 0))
     (λ _. if-cases (Enables settings bytes) _ _ _
     (λ long. long-form-enables settings bytes (sound-tells settings s) (eqb-true _ _ long))
-    (λ _. unchanged settings bytes BadLength refl)))
-    (λ _. unchanged settings bytes NotSound refl))
+    (λ _. unchanged settings bytes (Refused BadForm) refl)))
+    (λ _. unchanged settings bytes (Refused NotSound) refl))
 
 pub recodes : Recodes
 recodes settings s = settings-recoded settings (sound-tells settings s .has-room) (sound-tells settings s .kept-is-bits)

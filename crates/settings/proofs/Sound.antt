@@ -7,7 +7,7 @@ use mathlib.Core.Path.{_≡_}
 use lib.ListN.{length, getD}
 use borrow.Author.Tests.{lt-ltb, ltb-false}
 use Rattle.prelude.proofs.Tests.{if-true, if-first, if-second, if-not-first, if-not-second}
-use Rattle.settings.specs.Record.{size, allowed, hasItsMac, sound}
+use Rattle.settings.specs.Layout.{size, allowed, hasItsMac, sound}
 
 -- its four tests
 pub record Sound (bytes : List ℕ) : Type 0 where

@@ -13,7 +13,7 @@ use Rattle.prelude.specs.Bits.{isSet}
 use Rattle.prelude.specs.Choice.{if_then_else_, _or_}
 use Rattle.prelude.specs.Parts.{part, put}
 use Rattle.prelude.proofs.Lists.{length-part, put-over-if}
-use Rattle.settings.specs.Record.{size, settingsIn, withSettings, freshSettings, keptBits, hasDedicatedMac, respondsToArp}
+use Rattle.settings.specs.Layout.{size, settingsIn, withSettings, freshSettings, keptBits, hasDedicatedMac, respondsToArp}
 use Rattle.settings.specs.Enable.{shortForm, longForm}
 
 -- the byte of kept bits, from its bits

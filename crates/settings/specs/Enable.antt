@@ -1,4 +1,4 @@
--- Receive Enable: how it is judged, and the record that it leaves (document 01, Receive settings and Answer numbers).
+-- Receive Enable: how it is judged, and the settings that it leaves (manual 5.2, 5.5, 5.6).
 use Prim.Native.Nat.{ℕ}
 use mathlib.Core.List.{List}
 use lib.Dec.{eqb, ltb}
@@ -6,23 +6,28 @@ use lib.ListN.{length, getD}
 use Rattle.prelude.specs.Choice.{if_then_else_, _or_}
 use Rattle.prelude.specs.Parts.{part}
 use Rattle.settings.specs.declared.enable.Enabled.{Enabled}
-use Rattle.settings.specs.declared.enable.Enabled.the-variants.{TooShort, NotSound, BadLength, BadControl, NoMac, Taken}
-use Rattle.settings.specs.Record.{Settings, size, keptAt, macSize, ipv4Size, unreadSize, settingsIn, withSettings, freshSettings, sound, allowed, hasDedicatedMac, respondsToArp, hasItsMac}
+use Rattle.settings.specs.declared.enable.Enabled.the-variants.{Taken, Refused}
+use Rattle.settings.specs.declared.enable.Refusal.{Refusal}
+use Rattle.settings.specs.declared.enable.Refusal.the-variants.{TooShort, NotSound, BadForm, BadControl, NoMac}
+use Rattle.settings.specs.Layout.{Settings, size, keptAt, macSize, ipv4Size, unreadSize, settingsIn, withSettings, freshSettings, sound, allowed, hasDedicatedMac, respondsToArp, hasItsMac}
 
--- the answer numbers
+-- the answer numbers (manual 2.1)
+abbrev pub refusalNumber : Refusal → ℕ
+refusalNumber TooShort = 12
+refusalNumber NotSound = 13
+refusalNumber BadForm = 8
+refusalNumber BadControl = 9
+refusalNumber NoMac = 10
+
 abbrev pub numberOf : Enabled → ℕ
-numberOf TooShort = 12
-numberOf NotSound = 13
-numberOf BadLength = 8
-numberOf BadControl = 9
-numberOf NoMac = 10
 numberOf Taken = 11
+numberOf (Refused refusal) = refusalNumber refusal
 
--- a call that has no number of its own answers 0 when done
-abbrev pub done : ℕ
-done = 0
+-- a call that is done and has no number of its own (manual 2.5)
+abbrev pub success : ℕ
+success = 0
 
--- an answer, and the record afterwards
+-- an answer, and the settings afterwards
 pub record Answered (A : Type 0) : Type 0 where
   pub answer : A
   pub settings : List ℕ
@@ -30,13 +35,13 @@ pub record Answered (A : Type 0) : Type 0 where
 abbrev pub answered : {A : Type 0} → A → List ℕ → Answered A
 answered answer settings = record { answer = answer; settings = settings }
 
--- "Fresh, written by a call of its own (too short: 12)"
+-- fresh settings written over what stands there (manual 5.4)
 unfoldable pub freshened : List ℕ → Answered ℕ
 freshened settings =
-    if ltb (length settings) size then answered (numberOf TooShort) settings else
-    answered done (withSettings freshSettings settings)
+    if ltb (length settings) size then answered (refusalNumber TooShort) settings else
+    answered success (withSettings freshSettings settings)
 
--- "A short form sets the control only."
+-- the short form sets the control byte alone (manual 5.5)
 abbrev pub shortForm : Settings → ℕ → Settings
 shortForm s control =
     record {
@@ -48,7 +53,7 @@ shortForm s control =
       unread = s .unread;
     }
 
--- "data bytes 2 to 7 MAC, 8 to 11 IPv4, 12 to 14 kept unread"; "A long form sets the MAC and its bit only if CBDM is set, the IPv4 and its bit only if bit 3 (EN_ARP_RES) is set, and always the last three."
+-- the long form sets the last three bytes too, and an address with its bit where its control bit is set (manual 5.5)
 abbrev pub longForm : Settings → List ℕ → Settings
 longForm s bytes =
     let control : ℕ = getD bytes 0 0 in
@@ -61,33 +66,33 @@ longForm s bytes =
       unread = part 11 unreadSize bytes;
     }
 
--- 9 "control byte not allowed", 10 "CBDM set, short form, no MAC kept", 11 "Receive Enable taken"
+-- 9 before 10, else 11 (manual 5.6)
 unfoldable pub shortFormAnswered : List ℕ → ℕ → Answered Enabled
 shortFormAnswered settings control =
     if allowed control then
     (if hasItsMac control (getD settings keptAt 0) then
     answered Taken (withSettings (shortForm (settingsIn settings) control) settings)
-    else answered NoMac settings)
-    else answered BadControl settings
+    else answered (Refused NoMac) settings)
+    else answered (Refused BadControl) settings
 
 unfoldable pub longFormAnswered : List ℕ → List ℕ → Answered Enabled
 longFormAnswered settings bytes =
     if allowed (getD bytes 0 0) then answered Taken (withSettings (longForm (settingsIn settings) bytes) settings) else
-    answered BadControl settings
+    answered (Refused BadControl) settings
 
--- "Receive Enable not of 1 or 14 bytes"
+-- how many bytes each form has (manual 5.2)
 abbrev pub shortFormSize : ℕ
 shortFormSize = 1
 
 abbrev pub longFormSize : ℕ
 longFormSize = 14
 
--- 12, 13, then 8
+-- 12 and 13 before 8 (manual 2.2, 5.6)
 unfoldable pub receiveEnabled : List ℕ → List ℕ → Answered Enabled
 receiveEnabled settings bytes =
-    if ltb (length settings) size then answered TooShort settings else
+    if ltb (length settings) size then answered (Refused TooShort) settings else
     if sound settings then
     (if eqb (length bytes) shortFormSize then shortFormAnswered settings (getD bytes 0 0) else
     if eqb (length bytes) longFormSize then longFormAnswered settings bytes else
-    answered BadLength settings)
-    else answered NotSound settings
+    answered (Refused BadForm) settings)
+    else answered (Refused NotSound) settings

@@ -1,3 +1,3 @@
 pub mod Enable
+pub mod Layout
 pub mod Properties
-pub mod Record

@@ -1,6 +1,9 @@
 // Receive Enable: the short form sets the control byte, the long form also the addresses.
+use crate::CBDM;
 use crate::CONTROL;
+use crate::EN_ARP_RES;
 use crate::IPV4;
+use crate::IPV4_KEPT;
 use crate::KEPT;
 use crate::MAC;
 use crate::SIZE;
@@ -14,23 +17,28 @@ ghost use Prim.Native.Nat.{_+_, _≤_};
 ghost use lib.ListN.{length, getD};
 ghost use Rattle.prelude.specs.Parts.{put};
 ghost use Rattle.prelude.specs.Choice.{if_then_else_};
-ghost use Rattle.settings.specs.Record.{size, keptAt, settingsIn, withSettings};
-ghost use Rattle.settings.specs.Enable.{numberOf, answered, longFormSize, longForm, shortFormAnswered, longFormAnswered, receiveEnabled};
+ghost use Rattle.settings.specs.Layout.{size, keptAt, settingsIn, withSettings};
+ghost use Rattle.settings.specs.Enable.{numberOf, refusalNumber, answered, longFormSize, longForm, shortFormAnswered, longFormAnswered, receiveEnabled};
 
-// What became of a Receive Enable, with the answer numbers.
+// What became of a Receive Enable.
 pub enum Enabled {
-    // 12: the record is too short.
+    // 11
+    Taken,
+    Refused(Refusal),
+}
+
+// Why a Receive Enable was refused, with the answer numbers.
+pub enum Refusal {
+    // 12: the settings are too short.
     TooShort,
-    // 13: the record is not sound.
+    // 13: the settings are not sound.
     NotSound,
     // 8: the data is neither of the short nor of the long form.
-    BadLength,
+    BadForm,
     // 9: the control byte is not allowed.
     BadControl,
     // 10: a short form asks for a dedicated MAC address, and none is kept.
     NoMac,
-    // 11
-    Taken,
 }
 
 // Lengths of the data.
@@ -45,16 +53,15 @@ const DATA_IPV4: usize = 7;
 
 const DATA_UNREAD: usize = 11;
 
-// Judges a Receive Enable, and changes the record where it is taken; any other answer changes
-// nothing.
+// Judges a Receive Enable, and changes the settings where it is taken; a refusal changes nothing.
 pub fn receive_enable(settings: &mut [u8], bytes: &[u8]) -> Enabled
     ensures { λ r. ⌜ answered r (now (settings .exit)) ≡ receiveEnabled (now (settings .entry)) (now (bytes .entry)) ⌝ }
 {
     if settings.len() < SIZE {
-        return Enabled::TooShort;
+        return Enabled::Refused(Refusal::TooShort);
     }
     if !is_sound(settings) {
-        return Enabled::NotSound;
+        return Enabled::Refused(Refusal::NotSound);
     }
     if bytes.len() == SHORT_FORM {
         return short_form(settings, bytes[0]);
@@ -62,44 +69,50 @@ pub fn receive_enable(settings: &mut [u8], bytes: &[u8]) -> Enabled
     if bytes.len() == LONG_FORM {
         return long_form(settings, bytes);
     }
-    Enabled::BadLength
+    Enabled::Refused(Refusal::BadForm)
 }
 
 fn short_form(settings: &mut [u8], control: u8) -> Enabled
-    requires { ⌜ (size ≤ length (now settings)) × (getD (now settings) keptAt 0 ≤ 3) ⌝ }
+    requires { ⌜ size ≤ length (now settings) ⌝ }
+    requires { ⌜ getD (now settings) keptAt 0 ≤ 3 ⌝ }
     ensures { λ r. ⌜ answered r (now (settings .exit)) ≡ shortFormAnswered (now (settings .entry)) control ⌝ }
 {
     if !is_allowed(control) {
-        return Enabled::BadControl;
+        return Enabled::Refused(Refusal::BadControl);
     }
     if !has_its_mac(control, settings[KEPT]) {
-        return Enabled::NoMac;
+        return Enabled::Refused(Refusal::NoMac);
     }
     settings[CONTROL] = control;
     Enabled::Taken
 }
 
 fn long_form(settings: &mut [u8], bytes: &[u8]) -> Enabled
-    requires { ⌜ (size ≤ length (now settings)) × (getD (now settings) keptAt 0 ≤ 3) × (length (now bytes) ≡ longFormSize) ⌝ }
+    requires { ⌜ size ≤ length (now settings) ⌝ }
+    requires { ⌜ getD (now settings) keptAt 0 ≤ 3 ⌝ }
+    requires { ⌜ length (now bytes) ≡ longFormSize ⌝ }
     ensures { λ r. ⌜ answered r (now (settings .exit)) ≡ longFormAnswered (now (settings .entry)) (now (bytes .entry)) ⌝ }
 {
     if !is_allowed(bytes[0]) {
-        return Enabled::BadControl;
+        return Enabled::Refused(Refusal::BadControl);
     }
     write_long_form(settings, bytes);
     Enabled::Taken
 }
 
 fn write_long_form(settings: &mut [u8], bytes: &[u8])
-    requires { ⌜ (size ≤ length (now settings)) × (getD (now settings) keptAt 0 ≤ 3) × (length (now bytes) ≡ longFormSize) ⌝ }
+    requires { ⌜ size ≤ length (now settings) ⌝ }
+    requires { ⌜ getD (now settings) keptAt 0 ≤ 3 ⌝ }
+    requires { ⌜ length (now bytes) ≡ longFormSize ⌝ }
     ensures { λ _. ⌜ now (settings .exit) ≡ withSettings (longForm (settingsIn (now (settings .entry))) (now (bytes .entry))) (now (settings .entry)) ⌝ }
 {
     let control = bytes[0];
     let kept = settings[KEPT];
-    let gives_mac = control / 128 % 2 == 1;
-    let gives_ipv4 = control / 8 % 2 == 1;
+    let gives_mac = control / CBDM % 2 == 1;
+    let gives_ipv4 = control / EN_ARP_RES % 2 == 1;
     settings[CONTROL] = control;
-    settings[KEPT] = kept_bit(gives_mac, kept % 2) + 2 * kept_bit(gives_ipv4, kept / 2);
+    settings[KEPT] = kept_bit(gives_mac, kept % 2)
+        + IPV4_KEPT * kept_bit(gives_ipv4, kept / IPV4_KEPT);
     put_if(gives_mac, settings, MAC, &bytes[DATA_MAC..DATA_IPV4]);
     put_if(gives_ipv4, settings, IPV4, &bytes[DATA_IPV4..DATA_UNREAD]);
     put_if(true, settings, UNREAD, &bytes[DATA_UNREAD..LONG_FORM]);
@@ -127,11 +140,20 @@ pub fn number(enabled: Enabled) -> u32
     ensures { λ r. ⌜ r ≡ numberOf enabled ⌝ }
 {
     match enabled {
-        Enabled::TooShort => TOO_SHORT,
-        Enabled::NotSound => 13,
-        Enabled::BadLength => 8,
-        Enabled::BadControl => 9,
-        Enabled::NoMac => 10,
         Enabled::Taken => 11,
+        Enabled::Refused(refusal) => refusal_number(refusal),
+    }
+}
+
+// The answer number of a refusal.
+pub fn refusal_number(refusal: Refusal) -> u32
+    ensures { λ r. ⌜ r ≡ refusalNumber refusal ⌝ }
+{
+    match refusal {
+        Refusal::TooShort => TOO_SHORT,
+        Refusal::NotSound => 13,
+        Refusal::BadForm => 8,
+        Refusal::BadControl => 9,
+        Refusal::NoMac => 10,
     }
 }

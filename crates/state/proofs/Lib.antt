@@ -1,4 +1,5 @@
-pub mod FreshAccounts
-pub mod Grid
+pub mod AllRows
+pub mod FreshStates
 pub mod Rows
-pub mod Sound
+pub mod Soundness
+pub mod Unique

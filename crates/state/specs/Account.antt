@@ -1,27 +1,18 @@
--- The account: its grid of rows and columns, and a fresh one (document 01, The account).
+-- The account: its grid of rows and columns, and the numbers beside it (manual 8.2, 8.5, 8.6).
 use Prim.Native.Nat.{ℕ, zero, suc, _+_, _*_}
+use mathlib.Core.Bool.{Bool}
 use mathlib.Core.List.{List}
+use mathlib.Core.Path.{_≡_}
 use lib.Dec.{ltb}
-use lib.ListN.{getD, replicate}
-use Rattle.prelude.specs.Choice.{if_then_else_}
+use lib.ListN.{length, getD}
 use Rattle.state.specs.declared.Account.{Account}
-use Rattle.state.specs.declared.Made.{Made}
+use Rattle.state.specs.declared.Beside.{Beside}
 
--- "Full: T is 4,294,967,295."
+-- the total at which an account is full (manual 8.6)
 abbrev pub limit : ℕ
 limit = 4294967295
 
--- "maximum 1 to 240"
-abbrev pub maxMaximum : ℕ
-maxMaximum = 240
-
--- "a grid of nine rows of three: sent, superseded, flushed, broken, over, short, linkdown, aborted, badlength", "each with packets, fragments and bytes"
-abbrev pub rows : ℕ
-rows = 9
-
-abbrev pub columns : ℕ
-columns = 3
-
+-- the rows, in the order of the grid and of the printout (manual 8.2)
 abbrev pub sent : ℕ
 sent = 0
 
@@ -49,6 +40,17 @@ aborted = 7
 abbrev pub badlength : ℕ
 badlength = 8
 
+abbrev pub rowCount : ℕ
+rowCount = 9
+
+-- in the place of a row where there is none
+abbrev pub noRow : ℕ
+noRow = rowCount
+
+-- packets, fragments and bytes
+abbrev pub columns : ℕ
+columns = 3
+
 -- the cells of a row, in a grid that is one list
 abbrev pub packetsIn : ℕ → List ℕ → ℕ
 packetsIn row grid = getD grid (row * columns) 0
@@ -59,35 +61,23 @@ fragmentsIn row grid = getD grid (row * columns + 1) 0
 abbrev pub bytesIn : ℕ → List ℕ → ℕ
 bytesIn row grid = getD grid (row * columns + 2) 0
 
--- "all fragments in the grid": those of the first n rows
+-- the fragments of the first n rows
 unfoldable pub allFragments : ℕ → List ℕ → ℕ
 allFragments zero grid = 0
 allFragments (suc row) grid = allFragments row grid + fragmentsIn row grid
 
--- the account for a fragment maximum, with nothing counted
-abbrev pub freshAccount : ℕ → Account
-freshAccount maximum =
-    record {
-      maximum = maximum;
-      grid = replicate (rows * columns) 0;
-      «open_fragments» = 0;
-      «open_bytes» = 0;
-      taken = 0;
-      refused = 0;
-      total = 0;
-    }
+-- the numbers beside the grid, and an account of both
+abbrev pub besides : (openFragments openBytes taken refused total : ℕ) → Beside
+besides openFragments openBytes taken refused total =
+    record { «open_fragments» = openFragments; «open_bytes» = openBytes; taken = taken; refused = refused; total = total }
 
--- a call that has no number of its own answers 0 when done
-abbrev pub done : ℕ
-done = 0
+abbrev pub accountOf : List ℕ → Beside → Account
+accountOf grid beside = record { grid = grid; beside = beside }
 
--- 16: "fragment maximum not 1 to 240"
-abbrev pub badMaximum : ℕ
-badMaximum = 16
+-- a packet is open where it has a fragment (manual 3.1)
+abbrev pub isOpen : Account → Bool
+isOpen a = ltb 0 (a .beside .«open_fragments»)
 
--- "fresh state for 240 comes back"
-unfoldable pub made : ℕ → Made
-made maximum =
-    if ltb maximum 1 then record { answer = badMaximum; account = freshAccount maxMaximum } else
-    if ltb maxMaximum maximum then record { answer = badMaximum; account = freshAccount maxMaximum } else
-    record { answer = done; account = freshAccount maximum }
+-- an account as the program holds one: its grid has its rows and columns
+abbrev pub Formed : Account → Type 0
+Formed a = length (a .grid) ≡ rowCount * columns

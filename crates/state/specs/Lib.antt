@@ -2,3 +2,4 @@ pub mod Account
 pub mod Grid
 pub mod Properties
 pub mod Sound
+pub mod State

@@ -1,10 +1,10 @@
--- What follows from the rules for every fresh account (document 01, The account and Answer numbers).
+-- What follows for every fresh state (manual 8.8).
 use Prim.Native.Nat.{ℕ}
 use mathlib.Core.Bool.{true}
 use mathlib.Core.Path.{_≡_}
-use Rattle.state.specs.Account.{made}
 use Rattle.state.specs.Sound.{sound}
+use Rattle.state.specs.State.{made}
 
 -- it is sound, whatever maximum was asked for
 abbrev pub EveryFresh : Type 0
-EveryFresh = (maximum : ℕ) → sound (made maximum .account) ≡ true
+EveryFresh = (maximum : ℕ) → sound (made maximum .state) ≡ true

@@ -1,42 +1,47 @@
--- When an account is sound (document 01, The account, "Sound").
+-- When an account and when a state is sound (manual 8.7, 8.8).
 use Prim.Native.Nat.{ℕ, zero, suc, _+_, _*_}
 use mathlib.Core.Bool.{Bool, true}
 use mathlib.Core.List.{List}
-use lib.Dec.{eqb, leb, ltb}
+use lib.Dec.{eqb, leb}
 use Rattle.prelude.specs.Choice.{_and_}
 use Rattle.state.specs.declared.Account.{Account}
-use Rattle.state.specs.Account.{limit, maxMaximum, rows, aborted, badlength, packetsIn, fragmentsIn, bytesIn, allFragments}
+use Rattle.state.specs.declared.State.{State}
+use Rattle.state.specs.Account.{limit, rowCount, aborted, badlength, packetsIn, fragmentsIn, bytesIn, allFragments}
+use Rattle.state.specs.State.{maxMaximum}
 
--- "T is within its limit", "maximum 1 to 240"
-unfoldable pub countsSound : ℕ → ℕ → Bool
-countsSound maximum total = leb 1 maximum and leb maximum maxMaximum and leb total limit
-
--- "in each row packets are at most fragments and bytes at most 240 times fragments"
+-- a row has no more packets than fragments, and at most 240 bytes for each fragment
 unfoldable pub rowSound : ℕ → ℕ → ℕ → Bool
 rowSound packets fragments bytes = leb packets fragments and leb bytes (maxMaximum * fragments)
 
--- of the first n rows
+-- the first n rows
 unfoldable pub rowsSound : ℕ → List ℕ → Bool
 rowsSound zero grid = true
 rowsSound (suc row) grid = rowsSound row grid and rowSound (packetsIn row grid) (fragmentsIn row grid) (bytesIn row grid)
 
--- "aborted and badlength have zero packets, badlength zero bytes"
+-- the rows of single fragments have no packets, and badlength no bytes
 unfoldable pub singlesSound : List ℕ → Bool
 singlesSound grid = eqb (packetsIn aborted grid) 0 and eqb (packetsIn badlength grid) 0 and eqb (bytesIn badlength grid) 0
 
--- "T must equal all fragments in the grid, plus open, taken and refused"
+-- the open packet has at least one byte and at most 240 for each fragment
+unfoldable pub openSound : ℕ → ℕ → Bool
+openSound fragments bytes = leb fragments bytes and leb bytes (maxMaximum * fragments)
+
+-- the total counts every fragment of the grid, the open ones and the commands
 unfoldable pub sumHolds : List ℕ → ℕ → ℕ → ℕ → ℕ → Bool
-sumHolds grid openFragments taken refused total = eqb (allFragments rows grid + openFragments + taken + refused) total
+sumHolds grid openFragments taken refused total = eqb (allFragments rowCount grid + openFragments + taken + refused) total
 
--- with "open bytes lie between open fragments and maximum times open fragments"
-unfoldable pub sound : Account → Bool
-sound a =
-    countsSound (a .maximum) (a .total)
-    and rowsSound rows (a .grid)
+unfoldable pub accountSound : Account → Bool
+accountSound a =
+    leb (a .beside .total) limit
+    and rowsSound rowCount (a .grid)
     and singlesSound (a .grid)
-    and sumHolds (a .grid) (a .«open_fragments») (a .taken) (a .refused) (a .total)
-    and leb (a .«open_fragments») (a .«open_bytes») and leb (a .«open_bytes») (a .maximum * a .«open_fragments»)
+    and openSound (a .beside .«open_fragments») (a .beside .«open_bytes»)
+    and sumHolds (a .grid) (a .beside .«open_fragments») (a .beside .taken) (a .beside .refused) (a .beside .total)
 
--- "Open means open fragments above zero."
-abbrev pub isOpen : Account → Bool
-isOpen a = ltb 0 (a .«open_fragments»)
+-- the maximum is allowed, and bounds the open packet
+unfoldable pub sound : State → Bool
+sound s =
+    accountSound (s .account)
+    and leb 1 (s .maximum)
+    and leb (s .maximum) maxMaximum
+    and leb (s .account .beside .«open_bytes») (s .maximum * s .account .beside .«open_fragments»)

@@ -1,4 +1,4 @@
--- The eight bytes of status data: which fields may be written, the block that they make, and how a block is read (document 01, Status data; Tables 10-17 to 10-20 of the data sheet).
+-- The eight bytes of status data: which fields may be written, the block that they make, and how a block is read (manual 6).
 use Prim.Native.Nat.{ℕ, _+_, _*_, _/_, _%_, _^_}
 use mathlib.Core.Bool.{Bool, false}
 use mathlib.Core.List.{List, [], _∷_}
@@ -10,14 +10,14 @@ use Rattle.status.specs.declared.Fields.{Fields}
 use Rattle.status.specs.declared.Written.{Written}
 use Rattle.status.specs.declared.Parsed.{Parsed}
 
--- a call that has no number of its own answers 0 when done; 15 is "status field or block not allowed"
+-- the answers (manual 2.1, 2.5)
 abbrev pub done : ℕ
 done = 0
 
 abbrev pub notAllowed : ℕ
 notAllowed = 15
 
--- "Length 1 to 1536 (house) counts the check bytes; packet status is always 0x0001; the VLAN tag; the MNG status with decision index 0 to 15 and VLAN index 0 to 7."
+-- the largest length, the one packet status, and the largest indices (manual 6.2, 6.3, 6.5)
 abbrev pub maxLength : ℕ
 maxLength = 1536
 
@@ -30,22 +30,22 @@ maxDecisionIndex = 15
 abbrev pub maxVlanIndex : ℕ
 maxVlanIndex = 7
 
--- "an index is zero where its match bit is zero"
+-- an index is within its range where it is matched, and else zero (manual 6.5)
 unfoldable pub indexAllowed : Bool → ℕ → ℕ → Bool
 indexAllowed matched index max = if matched then leb index max else eqb index 0
 
--- the fields that may be written: any VLAN tag may
+-- the fields that may be written; any VLAN tag may (manual 6.4, 6.6)
 unfoldable pub allowed : Fields → Bool
 allowed f =
     leb 1 (f .length) and leb (f .length) maxLength
     and indexAllowed (f .«decision_match») (f .«decision_index») maxDecisionIndex
     and indexAllowed (f .«vlan_match») (f .«vlan_index») maxVlanIndex
 
--- Table 10-17: the packet length has bits 13:0
+-- the packet length has bits 13:0 (manual 6.2)
 abbrev pub lengthBits : ℕ
 lengthBits = 14
 
--- Table 10-20, MNG status: decision filter match 8, decision filter index 7:4, VLAN match 3, VLAN filter index 2:0
+-- where the parts of the MNG status lie (manual 6.5)
 abbrev pub decisionMatchAt : ℕ
 decisionMatchAt = 8
 
@@ -67,14 +67,14 @@ mngStatus f =
     flag (f .«decision_match») (2 ^ decisionMatchAt) + f .«decision_index» * 2 ^ decisionIndexAt
     + flag (f .«vlan_match») (2 ^ vlanMatchAt) + f .«vlan_index»
 
--- "low byte first in each field"
+-- a word as two bytes (manual 6.1)
 abbrev pub low : ℕ → ℕ
 low word = word % 256
 
 abbrev pub high : ℕ → ℕ
 high word = word / 256
 
--- Table 10-17: packet length, packet status, VLAN, MNG status
+-- the four words in their order (manual 6.1)
 unfoldable pub block : Fields → List ℕ
 block f =
     low (f .length) ∷ high (f .length)
@@ -86,7 +86,7 @@ block f =
 abbrev pub blockSize : ℕ
 blockSize = 8
 
--- 15: "eight zero bytes .. come back"
+-- zeros where a field is not allowed (manual 6.6)
 unfoldable pub written : Fields → Written
 written f =
     if allowed f then record { answer = done; block = block f } else
@@ -108,7 +108,7 @@ fieldsOf length vlan mng =
       «vlan_index» = mng % 2 ^ vlanMatchAt;
     }
 
--- 15: "all fields zero, come back"
+-- zeros where the bytes are no block (manual 6.6)
 abbrev pub refused : Parsed
 refused =
     record {
@@ -116,7 +116,7 @@ refused =
       fields = record { length = 0; vlan = 0; «decision_match» = false; «decision_index» = 0; «vlan_match» = false; «vlan_index» = 0 };
     }
 
--- "reserved bits are zero": 15:14 of the length, 15:9 of the MNG status
+-- the reserved bits, 15:14 of the length and 15:9 of the MNG status, are zero (manual 6.2, 6.5)
 unfoldable pub parsedWords : ℕ → ℕ → ℕ → ℕ → Parsed
 parsedWords length status vlan mng =
     if ltb 0 (bits lengthBits 2 length) then refused else
@@ -126,7 +126,7 @@ parsedWords length status vlan mng =
     refused)
     else refused
 
--- "A reader's input isn't exactly 8 bytes: 15."
+-- a block is exactly eight bytes (manual 6.6)
 unfoldable pub parsed : List ℕ → Parsed
 parsed b =
     if eqb (length b) blockSize then parsedWords (wordAt b 0) (wordAt b 2) (wordAt b 4) (wordAt b 6) else

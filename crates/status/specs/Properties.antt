@@ -1,4 +1,4 @@
--- Writing and reading belong together: "what one writes the other reads back, and nothing else is read" (demand 2).
+-- Exactly what the writer writes is read, and read as what was written (manual 6.6).
 use Prim.Native.Nat.{ℕ, _<_, _^_}
 use mathlib.Core.List.{List}
 use mathlib.Core.Logic.{_↔_}

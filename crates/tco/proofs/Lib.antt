@@ -1,3 +1,3 @@
 pub mod Properties
-pub mod Sent
 pub mod Step
+pub mod Unique

@@ -1,4 +1,4 @@
--- What is told by numbers is the part that the other crates show.
+-- A part in numbers is the part that the other crates show.
 -- Assumes nothing.
 use Prim.Native.Nat.{ℕ, _≤_}
 use mathlib.Core.List.{List}
@@ -14,12 +14,12 @@ use Rattle.prelude.proofs.Lists.{length-part}
 use Rattle.prelude.proofs.Tests.{if-cases}
 use Rattle.address.specs.declared.Address.the-variants.{Mac, Ipv4}
 use Rattle.address.specs.declared.Source.{Source}
-use Rattle.address.specs.declared.Source.the-variants.{Nowhere, Record, Flash}
+use Rattle.address.specs.declared.Source.the-variants.{Nowhere, Settings, Flash}
 use Rattle.address.specs.Address.{sourceOf, shownFrom, inForce}
 use Rattle.packet.specs.Store.{maxPacket, shown}
-use Rattle.settings.specs.Record.{macAt, ipv4At, macSize, ipv4Size}
+use Rattle.settings.specs.Layout.{macAt, ipv4At, macSize, ipv4Size}
 use Rattle.tco.specs.Part.{shownLength, partFrom}
-use Rattle.tco.specs.Properties.{taken, EveryPart}
+use Rattle.tco.specs.Properties.{partAt, EveryPart}
 
 packet : (store : RefT (List ℕ)) (n : ℕ) → partOf 0 (shownLength store n) store ≡ shown store n
 unfolding shown
@@ -33,16 +33,16 @@ packet store n =
     P s = partOf 0 (length (s .bytes)) store ≡ s
 
 module _ (settings flash : RefT (List ℕ)) where
-  mac : (source : Source) → taken (partFrom source macAt 0 macSize) settings flash ≡ shownFrom source Mac settings flash
+  mac : (source : Source) → partAt (partFrom source macAt 0 macSize) settings flash ≡ shownFrom source Mac settings flash
   unfolding if_then_else_ partFrom
   mac Nowhere = refl
-  mac Record = refl
+  mac Settings = refl
   mac Flash = refl
 
-  ipv4 : (source : Source) → taken (partFrom source ipv4At macSize ipv4Size) settings flash ≡ shownFrom source Ipv4 settings flash
+  ipv4 : (source : Source) → partAt (partFrom source ipv4At macSize ipv4Size) settings flash ≡ shownFrom source Ipv4 settings flash
   unfolding if_then_else_ partFrom
   ipv4 Nowhere = refl
-  ipv4 Record = refl
+  ipv4 Settings = refl
   ipv4 Flash = refl
 
 pub every-part : EveryPart

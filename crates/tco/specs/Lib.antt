@@ -3,3 +3,4 @@ pub mod Part
 pub mod Properties
 pub mod Reply
 pub mod Step
+pub mod Unique

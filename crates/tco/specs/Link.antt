@@ -1,4 +1,4 @@
--- Set Link over a medium that is told by a number (document 01, Set Link).
+-- Set Link over a medium that is told by a number (manual 7.2, 7.3).
 use Prim.Native.Nat.{ℕ}
 use mathlib.Core.Bool.{Bool}
 use lib.Dec.{eqb}
@@ -7,14 +7,14 @@ use Rattle.setlink.specs.declared.Decision.{Decision}
 use Rattle.setlink.specs.declared.Media.the-variants.{Copper, Fibre}
 use Rattle.setlink.specs.Decide.{failed, invalidParameter, decided}
 
--- how this interface numbers the media
+-- how this interface numbers the media (manual 7.2)
 abbrev pub copper : ℕ
 copper = 0
 
 abbrev pub fibre : ℕ
 fibre = 1
 
--- over any other number, which names no medium, the call is refused before a check is asked (house), and "A refusal keeps the old word."
+-- another number is no medium: an invalid parameter before any check, and the word in force stays (manual 7.3, 7.4)
 unfoldable pub decidedOver : ℕ → ℕ → Bool → ℕ → Decision
 decidedOver inForce word hostPresent media =
     if eqb media copper then decided inForce word hostPresent Copper else

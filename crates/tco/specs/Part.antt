@@ -1,21 +1,21 @@
--- Parts of lent buffers, told by numbers: the source, where in it the part starts and how long it is (document 01, First and Last, and Receive settings).
+-- Parts of lent buffers in numbers: the source, where in it the part starts and how long it is (manual 4.4, 5.9).
 use Prim.Native.Nat.{ℕ}
 use mathlib.Core.List.{List}
 use lib.ListN.{length}
 use denote.Ref.{RefT}
 use Rattle.address.specs.declared.Address.the-variants.{Mac, Ipv4}
 use Rattle.address.specs.declared.Source.{Source}
-use Rattle.address.specs.declared.Source.the-variants.{Nowhere, Record, Flash}
+use Rattle.address.specs.declared.Source.the-variants.{Nowhere, Settings, Flash}
 use Rattle.address.specs.Address.{sourceOf}
 use Rattle.packet.specs.Store.{shown}
-use Rattle.settings.specs.Record.{macAt, ipv4At, macSize, ipv4Size}
+use Rattle.settings.specs.Layout.{macAt, ipv4At, macSize, ipv4Size}
 use Rattle.tco.specs.declared.Part.{Part}
 
--- "shown as a part of the lent store, its first bytes up to a length asked for": how many they are
+-- how many bytes of the store are shown where so many are asked for (manual 4.4)
 abbrev pub shownLength : RefT (List ℕ) → ℕ → ℕ
 shownLength store n = length (shown store n .bytes)
 
--- the sources
+-- how this interface numbers the sources (manual 5.9)
 abbrev pub nowhere : ℕ
 nowhere = 0
 
@@ -25,13 +25,13 @@ inSettings = 1
 abbrev pub inFlash : ℕ
 inFlash = 2
 
--- "shown as a part of the record or of the Flash block, whichever it comes from", by where it starts in each and its size
+-- the part of its source, by where it would start in the settings and in Flash, and its size (manual 5.9)
 unfoldable pub partFrom : Source → ℕ → ℕ → ℕ → Part
 partFrom Nowhere settingsAt flashAt size = record { source = nowhere; start = 0; length = 0 }
-partFrom Record settingsAt flashAt size = record { source = inSettings; start = settingsAt; length = size }
+partFrom Settings settingsAt flashAt size = record { source = inSettings; start = settingsAt; length = size }
 partFrom Flash settingsAt flashAt size = record { source = inFlash; start = flashAt; length = size }
 
--- "The Flash block is 10 bytes: host MAC, then IPv4."
+-- the addresses in force: in Flash the MAC stands in front (manual 5.8)
 abbrev pub macInForce : List ℕ → List ℕ → Part
 macInForce settings flash = partFrom (sourceOf Mac settings flash) macAt 0 macSize
 

@@ -1,4 +1,4 @@
--- What is told by numbers is the part that the other crates show, in the same place and with the same bytes, whatever the buffers.
+-- A part in numbers is the part that the other crates show, in the same place and with the same bytes (manual 4.4, 5.9).
 use Prim.Native.Nat.{ℕ}
 use mathlib.Core.List.{List}
 use mathlib.Core.Path.{_≡_}
@@ -12,11 +12,11 @@ use Rattle.packet.specs.Store.{shown}
 use Rattle.tco.specs.declared.Part.{Part}
 use Rattle.tco.specs.Part.{shownLength, inFlash, macInForce, ipv4InForce}
 
--- the part that a caller takes
-abbrev pub taken : Part → RefT (List ℕ) → RefT (List ℕ) → Slice
-taken p settings flash = partOf (p .start) (p .length) (if eqb (p .source) inFlash then flash else settings)
+-- the part that the numbers tell
+abbrev pub partAt : Part → RefT (List ℕ) → RefT (List ℕ) → Slice
+partAt p settings flash = partOf (p .start) (p .length) (if eqb (p .source) inFlash then flash else settings)
 
 pub record EveryPart : Type 0 where
   pub packet : (store : RefT (List ℕ)) (n : ℕ) → partOf 0 (shownLength store n) store ≡ shown store n
-  pub mac : (settings flash : RefT (List ℕ)) → taken (macInForce (now settings) (now flash)) settings flash ≡ inForce Mac settings flash
-  pub ipv4 : (settings flash : RefT (List ℕ)) → taken (ipv4InForce (now settings) (now flash)) settings flash ≡ inForce Ipv4 settings flash
+  pub mac : (settings flash : RefT (List ℕ)) → partAt (macInForce (now settings) (now flash)) settings flash ≡ inForce Mac settings flash
+  pub ipv4 : (settings flash : RefT (List ℕ)) → partAt (ipv4InForce (now settings) (now flash)) settings flash ≡ inForce Ipv4 settings flash

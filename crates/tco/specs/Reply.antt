@@ -1,33 +1,25 @@
--- What a transaction leaves where its account, store and settings lie: what the call by value gives, its outcome told by document 01's numbers (document 01, The account).
-use Prim.Native.Nat.{ℕ}
-use mathlib.Core.Bool.{Bool}
+-- A transaction on a state where it lies: it leaves there, and replies, what the call by value gives (manual 8.10).
 use mathlib.Core.List.{List}
 use mathlib.Core.Path.{_≡_}
-use Rattle.state.specs.declared.Account.{Account}
-use Rattle.outcome.specs.declared.Outcome.{Outcome}
-use Rattle.outcome.specs.Outcome.{numberOf, sentLengthOf}
-use Rattle.translator.specs.Transact.{Done, transacted}
-use Rattle.tco.specs.declared.Reply.{Reply}
+use Prim.Native.Nat.{ℕ}
+use Rattle.prelude.specs.After.{After, after}
+use Rattle.record.specs.Transaction.{Transaction}
+use Rattle.state.specs.declared.State.{State}
+use Rattle.outcome.specs.declared.Reply.{Reply}
+use Rattle.outcome.specs.Outcome.{replyTo}
+use Rattle.translator.specs.declared.Transacted.{Transacted}
+use Rattle.translator.specs.Transact.{transacted}
+use Rattle.tco.specs.declared.Replied.{Replied}
 
--- the number of an answer, and "its sent length"
-abbrev pub replyTo : Outcome → Reply
-replyTo o = record { answer = numberOf o; sent = sentLengthOf o }
+-- a state, and the reply that came with it
+abbrev pub replied : State → Reply → Replied
+replied state reply = record { state = state; reply = reply }
 
--- account and reply, and what is left in both buffers
-pub record Left : Type 0 where
-  pub account : Account
-  pub reply : Reply
-  pub store : List ℕ
-  pub settings : List ℕ
+-- what the call by value gives, its outcome in numbers (manual 2.1)
+abbrev pub inNumbers : After Transacted → After Replied
+inNumbers done = after (replied (done .result .state) (replyTo (done .result .outcome))) (done .store) (done .settings)
 
-abbrev pub left : Account → Reply → List ℕ → List ℕ → Left
-left account reply store settings = record { account = account; reply = reply; store = store; settings = settings }
-
--- "It does what the by-value call does with the same transaction, with the same answer"
-abbrev pub leftBy : Done → Left
-leftBy d = left (d .result .account) (replyTo (d .result .outcome)) (d .store) (d .settings)
-
--- so of a transaction on an account where it lies, by what is there before and after it: the contract of `tco_transact`
-abbrev pub InPlace : (before : Account) (store settings : List ℕ) (command : ℕ) (bytes : List ℕ) (linkUp : Bool) (after : Account) (reply : Reply) (store′ settings′ : List ℕ) → Type 0
-InPlace before store settings command bytes linkUp after reply store′ settings′ =
-    left after reply store′ settings′ ≡ leftBy (transacted before store settings command bytes linkUp)
+-- what is there afterwards, by what was there before: the contract of `tco_transact` (manual 8.10)
+abbrev pub InPlace : (before : State) (store settings : List ℕ) (t : Transaction) (state′ : State) (reply : Reply) (store′ settings′ : List ℕ) → Type 0
+InPlace before store settings t state′ reply store′ settings′ =
+    after (replied state′ reply) store′ settings′ ≡ inNumbers (transacted before store settings t)

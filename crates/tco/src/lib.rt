@@ -1,34 +1,29 @@
-// What a driver links: the operations of the other crates under the names and in the layout of
-// include/tco.h, and the one operation on an account where it lies. Whatever is handed in, each
-// function answers; none relies on its caller for more than what the header says of memory.
+// What a driver links: the operations of the other crates by the names of include/tco.h, and the
+// transaction on a state where it lies. Whatever is handed in, each function answers.
 use address::Address;
 use address::Source;
+use outcome::Reply;
 use setlink::Decision;
 use setlink::Media;
 use state::Account;
 use state::Made;
+use state::State;
 use status::Fields;
 use status::Parsed;
 use status::Written;
 ghost use mathlib.Core.Path.{_≡_};
 ghost use Rattle.address.specs.Address.{sourceOf};
 ghost use Rattle.printout.specs.Printout.{written as Printout·written, printed};
+ghost use Rattle.record.specs.Transaction.{transaction};
 ghost use Rattle.settings.specs.Enable.{answered, freshened};
-ghost use Rattle.state.specs.Account.{made};
+ghost use Rattle.state.specs.State.{made};
 ghost use Rattle.status.specs.Block.{written, parsed};
 ghost use Rattle.tco.specs.Reply.{InPlace};
 ghost use Rattle.tco.specs.Part.{shownLength, partFrom, macInForce, ipv4InForce};
 ghost use Rattle.tco.specs.Link.{decidedOver};
 
-// What a transaction is answered: its number, and the sent length of a packet that was sent, else 0.
-#[repr(C)]
-pub struct Reply {
-    pub answer: u32,
-    pub sent: u32,
-}
-
-// A part of a buffer that was lent: of the settings or of Flash, by its source, where it starts and
-// its length. All is zero where there is none.
+// A part of the settings or of Flash: its source, where it starts and its length. All is zero where
+// there is none.
 #[repr(C)]
 pub struct Part {
     pub source: u32,
@@ -36,9 +31,9 @@ pub struct Part {
     pub length: u32,
 }
 
-// An account after a transaction, and the reply.
+// A state after a transaction, and the reply.
 struct Replied {
-    account: Account,
+    state: State,
     reply: Reply,
 }
 
@@ -63,15 +58,15 @@ const FAILED: u16 = 0x0001;
 
 const INVALID_PARAMETER: u16 = 0x0002;
 
-// A fresh account for fragments of at most `maximum` data bytes.
+// A fresh state for fragments of at most `maximum` data bytes.
 #[no_mangle]
-pub extern "C" fn tco_fresh_account(maximum: u32) -> Made
+pub extern "C" fn tco_fresh_state(maximum: u32) -> Made
     ensures { λ r. ⌜ r ≡ made maximum ⌝ }
 {
     state::fresh(maximum)
 }
 
-// Writes a fresh settings record.
+// Writes fresh settings.
 #[no_mangle]
 pub extern "C" fn tco_fresh_settings(settings: &mut [u8]) -> u32
     ensures { λ r. ⌜ answered r (now (settings .exit)) ≡ freshened (now (settings .entry)) ⌝ }
@@ -79,56 +74,53 @@ pub extern "C" fn tco_fresh_settings(settings: &mut [u8]) -> u32
     settings::fresh(settings)
 }
 
-// Takes one transaction on the account where it lies.
+// Does one transaction on the state where it lies.
 #[no_mangle]
 pub extern "C" fn tco_transact(
-    account: &mut Account,
+    state: &mut State,
     store: &mut [u8],
     settings: &mut [u8],
     command: u8,
     bytes: &[u8],
     link_up: bool,
 ) -> Reply
-    ensures { λ r. ⌜ InPlace (now (account .entry)) (now (store .entry)) (now (settings .entry)) command (now (bytes .entry)) «link_up» (now (account .exit)) r (now (store .exit)) (now (settings .exit)) ⌝ }
+    ensures { λ r. ⌜ InPlace (now (state .entry)) (now (store .entry)) (now (settings .entry)) (transaction command (now (bytes .entry)) «link_up») (now (state .exit)) r (now (store .exit)) (now (settings .exit)) ⌝ }
 {
-    let replied = transact(*account, store, settings, command, bytes, link_up);
-    *account = replied.account;
+    let replied = transact(*state, store, settings, command, bytes, link_up);
+    *state = replied.state;
     replied.reply
 }
 
-// The call by value, its outcome told in numbers.
+// The same on a state by value.
 fn transact(
-    account: Account,
+    state: State,
     store: &mut [u8],
     settings: &mut [u8],
     command: u8,
     bytes: &[u8],
     link_up: bool,
 ) -> Replied
-    ensures { λ r. ⌜ InPlace account (now (store .entry)) (now (settings .entry)) command (now (bytes .entry)) «link_up» (r .account) (r .reply) (now (store .exit)) (now (settings .exit)) ⌝ }
+    ensures { λ r. ⌜ InPlace state (now (store .entry)) (now (settings .entry)) (transaction command (now (bytes .entry)) «link_up») (r .state) (r .reply) (now (store .exit)) (now (settings .exit)) ⌝ }
 {
-    let done = translator::transact(account, store, settings, command, bytes, link_up);
-    let after = done.account;
-    let outcome = done.outcome;
+    let transacted = translator::transact(state, store, settings, command, bytes, link_up);
+    let after = transacted.state;
+    let outcome = transacted.outcome;
     Replied {
-        account: after,
-        reply: Reply {
-            answer: outcome::number(outcome),
-            sent: outcome::sent_length(outcome) as u32,
-        },
+        state: after,
+        reply: outcome::reply_to(outcome),
     }
 }
 
-// How many bytes to show, from the store's first on, where `length` are asked for: that many, or 0
+// How many bytes to show, from the store's first on, where `asked` are asked for: that many, or 0
 // where the store has fewer or they are more than a packet can have.
 #[no_mangle]
-pub extern "C" fn tco_shown(store: &[u8], length: usize) -> usize
-    ensures { λ r. ⌜ r ≡ shownLength (store .entry) length ⌝ }
+pub extern "C" fn tco_shown(store: &[u8], asked: usize) -> usize
+    ensures { λ r. ⌜ r ≡ shownLength (store .entry) asked ⌝ }
 {
-    packet::shown(store, length as u64).len()
+    packet::shown(store, asked as u64).len()
 }
 
-// The MAC address in force, as a part of the settings record or of the Flash block.
+// The MAC address in force, as a part of the settings or of the Flash block.
 #[no_mangle]
 pub extern "C" fn tco_mac_in_force(settings: &[u8], flash: &[u8]) -> Part
     ensures { λ r. ⌜ r ≡ macInForce (now (settings .entry)) (now (flash .entry)) ⌝ }
@@ -143,7 +135,7 @@ pub extern "C" fn tco_mac_in_force(settings: &[u8], flash: &[u8]) -> Part
     )
 }
 
-// The IPv4 address in force, as a part of the settings record or of the Flash block.
+// The IPv4 address in force, as a part of the settings or of the Flash block.
 #[no_mangle]
 pub extern "C" fn tco_ipv4_in_force(settings: &[u8], flash: &[u8]) -> Part
     ensures { λ r. ⌜ r ≡ ipv4InForce (now (settings .entry)) (now (flash .entry)) ⌝ }
@@ -158,17 +150,16 @@ pub extern "C" fn tco_ipv4_in_force(settings: &[u8], flash: &[u8]) -> Part
     )
 }
 
-// An address in force that would start at `in_settings` in a record and at `in_flash` in a Flash
-// block.
+// An address in force of `size` bytes, which start at `in_settings` or at `in_flash` in its source.
 fn in_force(
     address: Address,
     settings: &[u8],
     flash: &[u8],
     in_settings: u32,
     in_flash: u32,
-    length: u32,
+    size: u32,
 ) -> Part
-    ensures { λ r. ⌜ r ≡ partFrom (sourceOf address (now (settings .entry)) (now (flash .entry))) «in_settings» «in_flash» length ⌝ }
+    ensures { λ r. ⌜ r ≡ partFrom (sourceOf address (now (settings .entry)) (now (flash .entry))) «in_settings» «in_flash» size ⌝ }
 {
     match address::source_of(address, settings, flash) {
         Source::Nowhere => Part {
@@ -176,15 +167,15 @@ fn in_force(
             start: 0,
             length: 0,
         },
-        Source::Record => Part {
+        Source::Settings => Part {
             source: SETTINGS,
             start: in_settings,
-            length,
+            length: size,
         },
         Source::Flash => Part {
             source: FLASH,
             start: in_flash,
-            length,
+            length: size,
         },
     }
 }

@@ -1,46 +1,61 @@
--- Transactions one after another, and those of a journal's records (document 01, A transaction, and Journal and printout).
+-- Transactions one after another, and those of a journal's records (manual 9.2, 9.4).
 use Prim.Native.Nat.{ℕ, _+_}
 use mathlib.Core.Bool.{Bool}
 use mathlib.Core.List.{List, [], _∷_}
-use Rattle.record.specs.Records.{Transaction, Records, recordsIn}
-use Rattle.state.specs.declared.Account.{Account}
+use lib.ListN.{replicate}
+use Rattle.prelude.specs.After.{After, after}
+use Rattle.packet.specs.Store.{maxPacket}
+use Rattle.record.specs.Records.{Records, recordsIn}
+use Rattle.record.specs.Transaction.{Transaction}
+use Rattle.settings.specs.Layout.{freshSettings, withSettings}
+use Rattle.state.specs.declared.State.{State}
+use Rattle.state.specs.State.{made}
+use Rattle.translator.specs.declared.Transacted.{Transacted}
+use Rattle.translator.specs.declared.records.Replay.{Replay}
+use Rattle.translator.specs.declared.records.Replayed.{Replayed}
 use Rattle.translator.specs.declared.records.Stopped.{Stopped}
-use Rattle.translator.specs.Transact.{Done, transacted}
+use Rattle.translator.specs.Transact.{transacted}
 
--- what is carried from one transaction to the next
-pub record Carried : Type 0 where
-  pub account : Account
-  pub store : List ℕ
-  pub settings : List ℕ
+-- the state and the buffers that a transaction leaves
+abbrev pub stateAfter : After Transacted → After State
+stateAfter d = after (d .result .state) (d .store) (d .settings)
 
-abbrev pub carried : Account → List ℕ → List ℕ → Carried
-carried account store settings = record { account = account; store = store; settings = settings }
+-- transactions one after another, each on what the one before it left
+unfoldable pub allTransacted : After State → List Transaction → After State
+allTransacted c [] = c
+allTransacted c (t ∷ rest) = allTransacted (stateAfter (transacted (c .result) (c .store) (c .settings) t)) rest
 
--- transactions one after another, each by the rules
-unfoldable pub replayed : Carried → List Transaction → Carried
-replayed c [] = c
-replayed c (t ∷ rest) =
-    let d : Done = transacted (c .account) (c .store) (c .settings) (t .command) (t .bytes) (t .linkUp) in
-    replayed (carried (d .result .account) (d .store) (d .settings)) rest
+abbrev pub stoppedAt : State → ℕ → Bool → Stopped
+stoppedAt state at badLink = record { state = state; at = at; «bad_link» = badLink }
 
--- where a replay stopped, and what is left in both buffers
-pub record Replay : Type 0 where
-  pub result : Stopped
-  pub store : List ℕ
-  pub settings : List ℕ
+-- the whole records that some bytes behind the first `from` begin with, and what their transactions leave
+abbrev pub stoppedAfter : ℕ → Records → After State → After Stopped
+stoppedAfter from records c = after (stoppedAt (c .result) (from + records .used) (records .badLink)) (c .store) (c .settings)
 
-abbrev pub stoppedAt : Account → ℕ → Bool → Stopped
-stoppedAt account at badLink = record { account = account; at = at; «bad_link» = badLink }
+unfoldable pub recordsTaken : State → List ℕ → List ℕ → ℕ → List ℕ → After Stopped
+recordsTaken state store settings from bytes =
+    stoppedAfter from (recordsIn bytes) (allTransacted (after state store settings) (recordsIn bytes .transactions))
 
-abbrev pub stoppedWith : Stopped → List ℕ → List ℕ → Replay
-stoppedWith result store settings = record { result = result; store = store; settings = settings }
+-- a store of zeros and fresh settings (manual 5.4)
+abbrev pub emptyStore : List ℕ
+emptyStore = replicate maxPacket 0
 
--- the records behind the first `from` bytes, and what their transactions left
-abbrev pub stoppedAfter : ℕ → Records → Carried → Replay
-stoppedAfter from records c =
-    stoppedWith (stoppedAt (c .account) (from + records .used) (records .badLink)) (c .store) (c .settings)
+abbrev pub settingsAtStart : List ℕ
+settingsAtStart = withSettings freshSettings []
 
--- each whole record that some bytes begin with is one transaction
-unfoldable pub recordsReplayed : Account → List ℕ → List ℕ → ℕ → List ℕ → Replay
-recordsReplayed account store settings from bytes =
-    stoppedAfter from (recordsIn bytes) (replayed (carried account store settings) (recordsIn bytes .transactions))
+abbrev pub replayOf : State → List ℕ → List ℕ → Replay
+replayOf state store settings = record { state = state; store = store; settings = settings }
+
+unfoldable pub freshReplay : ℕ → Replay
+freshReplay maximum = replayOf (made maximum .state) emptyStore settingsAtStart
+
+abbrev pub replayedWith : After Stopped → Replayed
+replayedWith s =
+    record {
+      replay = replayOf (s .result .state) (s .store) (s .settings);
+      at = s .result .at;
+      «bad_link» = s .result .«bad_link»;
+    }
+
+unfoldable pub replayed : Replay → ℕ → List ℕ → Replayed
+replayed r from bytes = replayedWith (recordsTaken (r .state) (r .store) (r .settings) from bytes)

@@ -1,4 +1,4 @@
--- `account::print_account` is safe and ends. The invariant: the buffers keep their lengths. The measure is the number of turns that are left. Assumes nothing.
+-- `account::print_account` is safe and ends. The invariant: the buffer keeps its length. The measure is the number of turns that are left.
 use borrow.Author.Needs.{needs}
 use lib.ListN.{length}
 use mathlib.Core.Path.{_≡_}
@@ -6,16 +6,14 @@ use Rattle.account.proofs.print_account.Statement.{statement}
 use Rattle.account.proofs.print_account.Tie as tie
 
 abbrev Inv-loop : tie.InvT-loop
-Inv-loop fd name buffer₀ store₀ settings₀ reading₀ held₀ turns₀ buffer store settings reading held turns =
-    (65536 ≡ length buffer) × (1536 ≡ length store) × (15 ≡ length settings)
+Inv-loop fd name buffer₀ reading₀ unused₀ turns₀ buffer reading unused turns = 65536 ≡ length buffer
 
 abbrev μ-loop : tie.MeasureT-loop
-μ-loop fd name buffer₀ store₀ settings₀ reading₀ held₀ turns₀ buffer store settings reading held turns = turns
+μ-loop fd name buffer₀ reading₀ unused₀ turns₀ buffer reading unused turns = turns
 
 pub print-account-spec : {M : Type 1} → statement M
 print-account-spec =
     tie.close
     (tie.spec Inv-loop μ-loop
-    (search needs) (search needs) (search needs) (search needs) (search needs) (search needs)
-    (search needs) (search needs) (search needs) (search needs) (search needs) (search needs)
-    (search needs) (search needs))
+    (λ c κs. search needs) (λ c κs. search needs) (λ c. search needs) (λ c. search needs) (λ c κs. search needs)
+    (λ c. search needs) (λ c. search needs) (λ c. search needs) (λ c. search needs) (λ c. search needs))

@@ -1,12 +1,12 @@
 use mathlib.Core.Path.{_∙_, sym}
 use borrow.Author.Needs.{needs}
-use Rattle.address.proofs.Sources.{record-has-room, flash-has-room}
+use Rattle.address.proofs.Sources.{settings-have-room, flash-has-room}
 use Rattle.address.specs.Address.{inForce}
 use Rattle.address.proofs.in_force.Statement.{statement}
 use Rattle.address.proofs.in_force.Tie as tie
 
-record-part-requires : tie.Need-record-part-requires
-record-part-requires c κs = record-has-room _ _ _ (sym (c .before .before .source-of .ensures) ∙ c .enum-told2 .given .1)
+settings-part-requires : tie.Need-settings-part-requires
+settings-part-requires c κs = settings-have-room _ _ _ (sym (c .before .before .source-of .ensures) ∙ c .enum-told2 .given .1)
 
 flash-part-requires : tie.Need-flash-part-requires
 flash-part-requires c κs = flash-has-room _ _ _ (sym (c .before .before .source-of .ensures) ∙ c .enum-told3 .given .1)
@@ -17,7 +17,7 @@ returns c = rw (sym (c .before .before .before .source-of .ensures) ∙ c .befor
 
 returns-2 : tie.Need-returns-2
 unfolding inForce
-returns-2 c = rw (sym (c .before .before .before .source-of .ensures) ∙ c .before .enum-told2 .given .1) (c .record-part .ensures)
+returns-2 c = rw (sym (c .before .before .before .source-of .ensures) ∙ c .before .enum-told2 .given .1) (c .settings-part .ensures)
 
 returns-3 : tie.Need-returns-3
 unfolding inForce
@@ -33,7 +33,7 @@ in-force-spec =
     (search needs)
     (search needs)
     (search needs)
-    record-part-requires
+    settings-part-requires
     (search needs)
     flash-part-requires
     returns

@@ -15,16 +15,16 @@ returns-2 : tie.Need-returns-2
 unfolding sourceOf
 returns-2 c = search (tests, sym (c .before .before .is-sound .ensures))
 
-is-in-record-requires : tie.Need-is-in-record-requires
-is-in-record-requires c κs = sound-tells _ (sym (c .before .before .is-sound .ensures) ∙ not-false _ (c .before .if1 .left)) .has-room
+is-in-settings-requires : tie.Need-is-in-settings-requires
+is-in-settings-requires c κs = sound-tells _ (sym (c .before .before .is-sound .ensures) ∙ not-false _ (c .before .if1 .left)) .has-room
 
 returns-3 : tie.Need-returns-3
 unfolding sourceOf
-returns-3 c = search (tests, sym (c .before .before .before .before .is-sound .ensures), sym (c .before .is-in-record .ensures))
+returns-3 c = search (tests, sym (c .before .before .before .before .is-sound .ensures), sym (c .before .is-in-settings .ensures))
 
 returns-4 : tie.Need-returns-4
 unfolding sourceOf
-returns-4 c = search (tests, sym (c .before .before .before .before .is-sound .ensures), sym (c .before .is-in-record .ensures))
+returns-4 c = search (tests, sym (c .before .before .before .before .is-sound .ensures), sym (c .before .is-in-settings .ensures))
 
 pub source-of-spec : {M : Type 1} → statement M
 source-of-spec =
@@ -33,6 +33,6 @@ source-of-spec =
     (search needs)
     returns
     returns-2
-    is-in-record-requires
+    is-in-settings-requires
     returns-3
     returns-4)

@@ -10,14 +10,14 @@ use Rattle.printout.proofs.print.Tie as tie
 
 returns : tie.Need-returns
 unfolding printed
-returns c = search (tests, sym (c .before .is-sound .ensures))
+returns c = search (tests, sym (c .before .is-account-sound .ensures))
 
 returns-2 : tie.Need-returns-2
 unfolding printed
 returns-2 c =
     c .before .before .show .ensures
     ∙ (ap (λ (text : List ℕ). shown text (now (c .before .before .before .before .before .before .before .before .before .before .args .out))) (c .before .before .before .before .before .put-account .ensures .0 .content)
-    ∙ search (tests, sym (c .before .before .before .before .before .before .before .before .is-sound .ensures)))
+    ∙ search (tests, sym (c .before .before .before .before .before .before .before .before .is-account-sound .ensures)))
 
 pub print-spec : {M : Type 1} → statement M
 print-spec =

@@ -4,6 +4,8 @@ use mathlib.Core.Path.{_≡_, sym, ap, _∙_}
 use native.Mathlib.Omega.{arith}
 use borrow.Author.Needs.{needs}
 use lib.ListN.{length, take, drop}
+use Rattle.state.specs.Account.{rowCount}
+use Rattle.printout.specs.Appending.{maxFate}
 use Rattle.printout.specs.Printout.{fates, fateLines}
 use Rattle.printout.proofs.Fates.{fate-on}
 use Rattle.printout.proofs.put_fates.Statement.{statement}
@@ -11,13 +13,13 @@ use Rattle.printout.proofs.put_fates.Tie as tie
 
 abbrev Inv-loop : tie.InvT-loop
 Inv-loop text₀ at grid end₀ row₀ text end row =
-    (row ≤ 9)
+    (row ≤ rowCount)
     × (length text ≡ length text₀)
-    × (end ≤ at + 74 * row)
+    × (end ≤ at + maxFate * row)
     × (take end text ++ fateLines (drop row fates) grid ≡ take at text₀ ++ fateLines fates grid)
 
 abbrev μ-loop : tie.MeasureT-loop
-μ-loop text₀ at grid end₀ row₀ text end row = 9 - row
+μ-loop text₀ at grid end₀ row₀ text end row = rowCount - row
 
 loop-holds : tie.Need-loop-holds Inv-loop μ-loop
 loop-holds c = search needs
@@ -34,7 +36,7 @@ loop-again c =
 returns : tie.Need-returns Inv-loop μ-loop
 unfolding fateLines
 returns c =
-    let nine : c .before .loop .row ≡ 9 = omega arith in
+    let nine : c .before .loop .row ≡ rowCount = omega arith in
     record {
       bounded = omega arith;
       content = sym (append-nil (take (c .before .loop .end) (c .before .loop .text))) ∙ (ap (λ (n : ℕ). take (c .before .loop .end) (c .before .loop .text) ++ fateLines (drop n fates) (c .before .before .before .args .grid)) (sym nine) ∙ c .before .loop .inv .3);

@@ -1,6 +1,6 @@
 use native.Mathlib.Nat.{div-one}
 use Rattle.prelude.proofs.Tests.{tests}
-use Rattle.settings.specs.Record.{hasItsMac}
+use Rattle.settings.specs.Layout.{hasItsMac}
 use Rattle.settings.proofs.has_its_mac.Statement.{statement}
 use Rattle.settings.proofs.has_its_mac.Tie as tie
 

@@ -1,6 +1,6 @@
 use native.Mathlib.Nat.{div-one}
 use Rattle.prelude.proofs.Tests.{tests}
-use Rattle.settings.specs.Record.{allowed}
+use Rattle.settings.specs.Layout.{allowed}
 use Rattle.settings.proofs.is_allowed.Statement.{statement}
 use Rattle.settings.proofs.is_allowed.Tie as tie
 

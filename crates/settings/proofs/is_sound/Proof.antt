@@ -1,7 +1,7 @@
 use mathlib.Core.Path.{sym}
 use borrow.Author.Needs.{needs}
 use Rattle.prelude.proofs.Tests.{tests}
-use Rattle.settings.specs.Record.{sound}
+use Rattle.settings.specs.Layout.{sound}
 use Rattle.settings.proofs.is_sound.Statement.{statement}
 use Rattle.settings.proofs.is_sound.Tie as tie
 

@@ -1,6 +1,6 @@
 use borrow.Author.Needs.{needs}
 use Rattle.prelude.proofs.Tests.{tests}
-use Rattle.state.specs.Account.{made}
+use Rattle.state.specs.State.{made}
 use Rattle.state.proofs.fresh.Statement.{statement}
 use Rattle.state.proofs.fresh.Tie as tie
 

@@ -1,40 +1,46 @@
-use mathlib.Core.Path.{_∙_, ap}
+use mathlib.Core.Path.{sym, _∙_}
 use borrow.Author.Needs.{needs}
-use denote.Ref.{now}
-use Rattle.state.specs.declared.Account.{Account}
-use Rattle.translator.specs.Properties.{Formed}
-use Rattle.translator.specs.Transact.{transacted}
-use Rattle.translator.proofs.Held.{held-account, rows-of-flat}
+use Rattle.state.specs.Account.{Formed}
+use Rattle.translator.proofs.Grids.{flat-after}
+use Rattle.translator.proofs.Readied.{ready-fits}
 use Rattle.translator.proofs.transact.Statement.{statement}
 use Rattle.translator.proofs.transact.Tie as tie
 
-formed : (c : tie.Start) → Formed (c .args .account)
+formed : (c : tie.Start) → Formed (c .args .state .account)
 formed c = search needs
 
-transact-rows-requires : tie.Need-transact-rows-requires
-transact-rows-requires c κs =
-    let rows : _ = c .before .before .before in
-    let entry : _ = rows .before .before .before .before .before in
-    rows-of-flat (rows .rows-of .result) (entry .args .account .grid) (rows .rows-of .ensures) (formed entry)
+step-of-requires : tie.Need-step-of-requires
+step-of-requires c κs =
+    let readies : _ = c .before .before in
+    let start : _ = readies .before .before .before .before .before .before .before .before .before .before in
+    record { grid = start .args .state .account .grid; formed = formed start; known = readies .readiness-of .ensures }
+
+rows-after-requires : tie.Need-rows-after-requires
+rows-after-requires c κs =
+    let steps : _ = c .before .before .before .before .before .before .before in
+    let readies : _ = steps .before .before .before in
+    let start : _ = readies .before .before .before .before .before .before .before .before .before .before in
+    rw (c .rows-of .ensures) (steps .step-of .ensures .fits _ (λ ready. ready-fits (start .args .state) _ _ (sym (readies .readiness-of .ensures) ∙ ready) (formed start) .rows))
 
 returns : tie.Need-returns
 returns c =
-    let transacts : _ = c .before .before .before .before in
-    let besides : _ = transacts .before .before .before in
-    let rows : _ = besides .before in
-    let entry : _ = rows .before .before .before .before .before in
-    let args : _ = entry .args in
-    transacts .transact-rows .ensures
-    ∙ ap (λ (a : Account). transacted a (now (args .store)) (now (args .settings)) (args .command) (now (args .bytes)) (args .link-up))
-    (held-account (args .account) (besides .beside-of .result) (rows .rows-of .result) (besides .beside-of .ensures) (rows .rows-of .ensures) (formed entry))
+    let counts : _ = c .before in
+    let rows : _ = counts .before in
+    let steps : _ = rows .before .before .before .before .before .before .before in
+    let readies : _ = steps .before .before .before in
+    let start : _ = readies .before .before .before .before .before .before .before .before .before .before in
+    rw (c .flat-of .ensures, counts .rows-after .ensures, rows .rows-of .ensures, flat-after _ _ _ _ (formed start))
+    (steps .step-of .ensures .steps _ (readies .readiness-of .ensures))
 
 pub transact-spec : {M : Type 1} → statement M
 transact-spec =
     tie.close
     (tie.spec
-    (search needs)
-    (search needs)
-    transact-rows-requires
+    (λ c κs. search needs)
+    step-of-requires
+    (λ c κs. search needs)
+    rows-after-requires
+    (λ c κs. search needs)
     (search needs)
     (search needs)
     returns)

@@ -8,15 +8,15 @@ use Rattle.cases.proofs.printed.print_fed.Statement.{statement}
 use Rattle.cases.proofs.printed.print_fed.Tie as tie
 
 abbrev Inv-loop : tie.InvT-loop
-Inv-loop journal piece out store₀ settings₀ reading₀ used₀ end₀ left₀ store settings reading used end left =
-    (end + left ≡ length journal) × (used ≤ end) × (1536 ≡ length store) × (15 ≡ length settings)
+Inv-loop journal piece out reading₀ used₀ end₀ left₀ reading used end left =
+    (end + left ≡ length journal) × (used ≤ end)
 
 abbrev μ-loop : tie.MeasureT-loop
-μ-loop journal piece out store₀ settings₀ reading₀ used₀ end₀ left₀ store settings reading used end left = left
+μ-loop journal piece out reading₀ used₀ end₀ left₀ reading used end left = left
 
 loop-less : tie.Need-loop-less Inv-loop μ-loop
 loop-less c =
-    let called : _ = c .before .before .before .before .before .before .before .before .least in
+    let called : _ = c .before .before .before .before .least in
     omega (arith, called .ensures .2 (omega arith) (omega arith))
 
 pub print-fed-spec : {M : Type 1} → statement M
@@ -24,6 +24,5 @@ print-fed-spec =
     tie.close
     (tie.spec Inv-loop μ-loop
     (search needs) (search needs) (search needs) (search needs) (search needs) (search needs)
-    (search needs) (search needs) (search needs) (search needs) (search needs) (search needs)
-    (search needs) (search needs) loop-less (search needs) (search needs) (search needs)
-    (search needs) (search needs))
+    (search needs) (search needs) (search needs) (search needs) loop-less (search needs)
+    (search needs) (search needs) (search needs) (search needs))

@@ -19,7 +19,7 @@ unfolding receiveEnabled
 returns-3 c = c .before .before .short-form .ensures ∙ search (tests, sym (c .before .before .before .before .before .before .before .is-sound .ensures))
 
 long-form-requires : tie.Need-long-form-requires
-long-form-requires c κs = let s : _ = sound-tells _ (sym (c .before .before .before .before .is-sound .ensures) ∙ not-false _ (c .before .before .before .if2 .left)) in (s .has-room, s .kept-is-bits, c .before .if4 .taken)
+long-form-requires c κs = let s : _ = sound-tells _ (sym (c .before .before .before .before .is-sound .ensures) ∙ not-false _ (c .before .before .before .if2 .left)) in (s .has-room, (s .kept-is-bits, c .before .if4 .taken))
 
 returns-4 : tie.Need-returns-4
 unfolding receiveEnabled

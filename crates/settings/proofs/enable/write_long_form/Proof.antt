@@ -32,7 +32,7 @@ returns c =
     let bits : _ = first .before .before .before in
     let start : _ = bits .before .before .before .before .before .before in
     rw (third .put-if3 .ensures, second .put-if2 .ensures, first .put-if .ensures, bits .kept-bit2 .ensures .0, bits .before .kept-bit .ensures .0)
-    (long-form-written (start .args .settings .now) (start .args .bytes .now) (start .pre .0) (start .pre .1) (start .pre .2))
+    (long-form-written (start .args .settings .now) (start .args .bytes .now) (start .pre .0) (start .pre .1 .0) (start .pre .1 .1))
 
 pub write-long-form-spec : {M : Type 1} → statement M
 write-long-form-spec =

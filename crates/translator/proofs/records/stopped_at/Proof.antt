@@ -3,4 +3,4 @@ use Rattle.translator.proofs.records.stopped_at.Statement.{statement}
 use Rattle.translator.proofs.records.stopped_at.Tie as tie
 
 pub stopped-at-spec : {M : Type 1} → statement M
-stopped-at-spec = tie.close (tie.spec (search needs) (λ c. rw (c .account-of .ensures)))
+stopped-at-spec = tie.close (tie.spec (λ c κs. search needs) (λ c. rw (c .flat-of .ensures)))
