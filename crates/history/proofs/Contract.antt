@@ -1,47 +1,35 @@
--- What a caller learns from the contract of an exported function is the step that demand 3 folds: `Learnt` is the contract as the prover reads it, over the function's arguments, its result and its slices at exit.
+-- What a caller learns from the contracts is the step that demand 3 takes.
 -- Assumes nothing.
 use Prim.Native.Nat.{ℕ}
 use mathlib.Core.Bool.{Bool, true, false}
-use mathlib.Core.List.{List}
+use mathlib.Core.List.{List, _++_}
 use mathlib.Core.Path.{_≡_, refl, ap, _∙_}
 use lib.Dec.{ltb}
-use lib.ListN.{length, take, drop}
-use borrow.Fn.Kinds.{Dens, resT, endedOf}
-use contract.Lifetimes.{Lfts}
+use lib.ListN.{length, drop}
 use denote.Ref.{RefT, now}
-use denote.Triple.Clauses.{AtExit}
+use Rattle.prelude.specs.After.{After, after}
 use Rattle.prelude.specs.Choice.{if_then_else_}
 use Rattle.prelude.specs.Parts.{Slice, sliceOf, partOf}
 use Rattle.packet.specs.Store.{maxPacket, shown}
-use Rattle.packet.proofs.shown.Kinds as shown-kinds
-use Rattle.packet.proofs.shown.Reads as shown-reads
-use Rattle.state.specs.declared.Account.{Account}
-use Rattle.translator.proofs.transact.Kinds as transact-kinds
-use Rattle.translator.proofs.transact.Reads as transact-reads
-use Rattle.translator.specs.Transact.{done, transacted}
-use Rattle.history.specs.Calls.{Kept, transact, leftBy, step, shownBytes}
+use Rattle.record.specs.Transaction.{Transaction, transaction}
+use Rattle.outcome.specs.Outcome.{replyTo}
+use Rattle.translator.specs.declared.Transacted.{Transacted}
+use Rattle.translator.specs.Transact.{transacted}
+use Rattle.history.specs.Calls.{transactedBy, packetsOf, shownBytes}
+use Rattle.history.specs.Contract.{TransactIsStep, ShownIsCompared}
 
--- the account and the two buffers as `translator::transact` is handed them, by a caller who lends so much of what it keeps
-module _ (κs : Lfts 3) (a : Dens κs transact-kinds.ps) (kept : Kept) (storeLent settingsLent : ℕ) where
-  abbrev lent-account : Account
-  lent-account = a .0
-
-  abbrev lent-store : List ℕ
-  lent-store = now (a .1 .0)
-
-  abbrev lent-record : List ℕ
-  lent-record = now (a .1 .1 .0)
-
-  pub transact-is-step : (result : resT transact-kinds.r κs .Denot) (exit : AtExit (endedOf 3 transact-kinds.ps transact-kinds.r) κs)
-      → lent-account ≡ kept .account → lent-store ≡ take storeLent (kept .store) → lent-record ≡ take settingsLent (kept .settings)
-      → transact-reads.Learnt κs a result exit
-      → leftBy kept (drop storeLent (kept .store)) (drop settingsLent (kept .settings)) (done result (now (exit .1 .0)) (now (exit .1 .1 .0)))
-      ≡ step (transact storeLent settingsLent (a .1 .1 .1 .0) (now (a .1 .1 .1 .1 .0)) (a .1 .1 .1 .1 .1 .0)) kept
-  transact-is-step result exit same-account same-store same-record learnt =
-      let same : transacted lent-account lent-store lent-record (a .1 .1 .1 .0) (now (a .1 .1 .1 .1 .0)) (a .1 .1 .1 .1 .1 .0)
-      ≡ transacted (kept .account) (take storeLent (kept .store)) (take settingsLent (kept .settings)) (a .1 .1 .1 .0) (now (a .1 .1 .1 .1 .0)) (a .1 .1 .1 .1 .1 .0)
-      = rw (same-account, same-store, same-record) in
-      ap (leftBy kept (drop storeLent (kept .store)) (drop settingsLent (kept .settings))) (learnt ∙ same)
+pub transact-is-step : TransactIsStep
+transact-is-step κs a result exit kept storeLent settingsLent same-state same-store same-settings learnt =
+    let t : Transaction = transaction (a .1 .1 .1 .0) (now (a .1 .1 .1 .1 .0)) (a .1 .1 .1 .1 .1 .0) in
+    let same : transacted (a .0) (now (a .1 .0)) (now (a .1 .1 .0)) t ≡ transactedBy storeLent settingsLent t kept = rw (same-state, same-store, same-settings) in
+    let left-is : after result (now (exit .1 .0)) (now (exit .1 .1 .0)) ≡ transactedBy storeLent settingsLent t kept = learnt ∙ same in
+    record {
+      state-is = ap (λ (left : After Transacted). left .result .state) left-is;
+      store-is = ap (λ (left : After Transacted). left .store ++ drop storeLent (kept .store)) left-is;
+      settings-are = ap (λ (left : After Transacted). left .settings ++ drop settingsLent (kept .settings)) left-is;
+      sent-are = ap (λ (left : After Transacted). kept .sent ++ packetsOf (replyTo (left .result .outcome)) (left .store ++ drop storeLent (kept .store))) left-is;
+      reply-is = ap (λ (left : After Transacted). replyTo (left .result .outcome)) left-is;
+    }
 
 -- what is shown of a slice are bytes of its contents, wherever it lies
 bytes-shown : (store : RefT (List ℕ)) (size : ℕ) → shown store size .bytes ≡ shownBytes (now store) size
@@ -55,9 +43,7 @@ bytes-shown store size = by-tests (ltb (length (now store)) size) (ltb maxPacket
     by-tests false true = refl
     by-tests false false = refl
 
--- what `packet::shown` shows is what a packet sent is compared by
-pub shown-is-compared : (κs : Lfts 1) (a : Dens κs shown-kinds.ps) (result : resT shown-kinds.r κs .Denot) (exit : AtExit (endedOf 1 shown-kinds.ps shown-kinds.r) κs)
-    → shown-reads.Learnt κs a result exit → now result ≡ shownBytes (now (a .0)) (a .1 .0)
+pub shown-is-compared : ShownIsCompared
 shown-is-compared κs a result exit learnt =
     let same : sliceOf result ≡ shown (a .0) (a .1 .0) = learnt in
     ap (λ (s : Slice). s .bytes) same ∙ bytes-shown (a .0) (a .1 .0)

@@ -1,25 +1,26 @@
--- The numbers of an account are those of a ledger, and every way of counting keeps it so.
+-- The numbers of an account are those of what is done and of the fragments held, and counting a transaction keeps it so.
 -- Assumes nothing.
 use Prim.Native.Nat.{ℕ, _+_, _*_, _<_}
-use mathlib.Core.Bool.{Bool, true, false}
 use mathlib.Core.List.{List, [], _∷_, _++_, append-nil}
 use mathlib.Core.Path.{_≡_, refl, sym, ap, _∙_, subst}
 use native.Mathlib.Omega.{arith}
-use lib.ListN.{length, length-append}
-use borrow.Author.Tests.{eqb-true, eqb-false, ne-eqb, eq-eqb, lt-ltb, le-ltb}
+use lib.Dec.{eqb, ltb}
+use lib.ListN.{length}
+use borrow.Author.Tests.{eqb-true, eqb-false, ne-eqb, eq-eqb, lt-ltb}
 use Rattle.prelude.specs.Choice.{if_then_else_}
-use Rattle.prelude.proofs.Tests.{if-true, if-false}
+use Rattle.prelude.proofs.Tests.{if-true, if-false, if-cases}
 use Rattle.state.specs.declared.Account.{Account}
-use Rattle.state.specs.Account.{rows, columns, packetsIn, fragmentsIn, bytesIn}
-use Rattle.state.specs.Sound.{isOpen}
+use Rattle.state.specs.Account.{rowCount, columns, noRow, packetsIn, fragmentsIn, bytesIn, Formed, accountOf}
+use Rattle.outcome.specs.declared.Outcome.{Outcome}
 use Rattle.translator.specs.Counting as counting
-use Rattle.translator.specs.Properties.{Formed}
-use Rattle.translator.proofs.Added.{added-length, added-here, added-elsewhere}
-use Rattle.history.specs.Lines.{Fate, rowOf, sent, superseded, flushed, broken, over, short, linkdown, aborted, badlength, Line, row, taken, refused, lineNumber, Column, packets, fragments, bytes, isLine, inLine}
-use Rattle.history.specs.Runs.{concatenated, End, ended, Run, run, Single, single, lineOf, ofRun, ofSingle, countRuns, countSingles}
-use Rattle.history.proofs.Ledger.{Ledger, ledger, closing, count-runs-append, count-singles-append}
+use Rattle.translator.specs.Judge.{judged, endsIn}
+use Rattle.translator.proofs.Added.{added-formed, added-here, added-elsewhere}
+use Rattle.history.specs.Lines.{Fate, rowOf, sent, superseded, flushed, broken, over, short, linkdown, aborted, badlength, Line, row, opened, taken, refused, lineNumber, Column, packets, fragments, bytes, isLine, inLine}
+use Rattle.history.specs.Packets.{totalOf}
+use Rattle.history.specs.Runs.{Item, run, alone, amount, countIn}
+use Rattle.history.proofs.Cutting.{closing, count-append}
 
-pub row-in-grid : (fate : Fate) → rowOf fate < rows
+pub row-in-grid : (fate : Fate) → rowOf fate < rowCount
 row-in-grid sent = omega arith
 row-in-grid superseded = omega arith
 row-in-grid flushed = omega arith
@@ -44,176 +45,162 @@ cellIn at packets grid = packetsIn at grid
 cellIn at fragments grid = fragmentsIn at grid
 cellIn at bytes grid = bytesIn at grid
 
-abbrev amount : ℕ → ℕ → ℕ → Column → ℕ
-amount p f b packets = p
-amount p f b fragments = f
-amount p f b bytes = b
+abbrev amountOf : ℕ → ℕ → ℕ → Column → ℕ
+amountOf p f b packets = p
+amountOf p f b fragments = f
+amountOf p f b bytes = b
 
-of-run : (pieces : List (List ℕ)) (column : Column) → ofRun pieces column ≡ amount 1 (length pieces) (length (concatenated pieces)) column
-unfolding ofRun
-of-run pieces packets = refl
-of-run pieces fragments = refl
-of-run pieces bytes = refl
+amount-of : (item : Item) (c : Column) → amount item c ≡ amountOf (item .packetCount) (length (item .pieces)) (totalOf (item .pieces)) c
+unfolding amount
+amount-of item packets = refl
+amount-of item fragments = refl
+amount-of item bytes = refl
 
-of-single : (size : ℕ) (column : Column) → ofSingle size column ≡ amount 0 1 size column
-unfolding ofSingle
-of-single size packets = refl
-of-single size fragments = refl
-of-single size bytes = refl
+-- a count, where it belongs to the row that is asked for
+abbrev inRow : ℕ → ℕ → Fate → ℕ
+inRow at count other = if eqb at (rowOf other) then count else 0
 
-cell-here : (at p f b : ℕ) (grid : List ℕ) (c : Column) → length grid ≡ rows * columns → at < rows → cellIn at c (counting.addTo at p f b grid) ≡ cellIn at c grid + amount p f b c
-cell-here at p f b grid packets formed l = added-here grid at p f b formed l .packets-are
-cell-here at p f b grid fragments formed l = added-here grid at p f b formed l .fragments-are
-cell-here at p f b grid bytes formed l = added-here grid at p f b formed l .bytes-are
+same-row : (fate : Fate) (count : ℕ) (other : Fate) → inRow (rowOf fate) count other ≡ inLine (row fate) count (row other)
+unfolding inLine
+same-row fate count other = refl
 
-cell-elsewhere : (at p f b : ℕ) (grid : List ℕ) (other : ℕ) (c : Column) → length grid ≡ rows * columns → at < rows → (other ≡ at → ⊥) → cellIn other c (counting.addTo at p f b grid) ≡ cellIn other c grid
-cell-elsewhere at p f b grid other packets formed l n = added-elsewhere grid at p f b formed l other n .packets-are
-cell-elsewhere at p f b grid other fragments formed l n = added-elsewhere grid at p f b formed l other n .fragments-are
-cell-elsewhere at p f b grid other bytes formed l n = added-elsewhere grid at p f b formed l other n .bytes-are
+no-row : (count : ℕ) (other : Fate) → inRow noRow count other ≡ 0
+no-row count other = if-false _ _ _ (ne-eqb noRow (rowOf other) (λ q. omega (arith, row-in-grid other, q)))
+
+cell-here : (at p f b : ℕ) (grid : List ℕ) (c : Column) → length grid ≡ rowCount * columns → at < rowCount → cellIn at c (counting.addTo at p f b grid) ≡ cellIn at c grid + amountOf p f b c
+cell-here at p f b grid packets formed l = added-here grid at p f b formed l .packets-more
+cell-here at p f b grid fragments formed l = added-here grid at p f b formed l .fragments-more
+cell-here at p f b grid bytes formed l = added-here grid at p f b formed l .bytes-more
+
+cell-elsewhere : (at p f b : ℕ) (grid : List ℕ) (other : ℕ) (c : Column) → length grid ≡ rowCount * columns → (other ≡ at → ⊥) → cellIn other c (counting.addTo at p f b grid) ≡ cellIn other c grid
+cell-elsewhere at p f b grid other packets formed n = added-elsewhere grid at p f b formed other n .packets
+cell-elsewhere at p f b grid other fragments formed n = added-elsewhere grid at p f b formed other n .fragments
+cell-elsewhere at p f b grid other bytes formed n = added-elsewhere grid at p f b formed other n .bytes
 
 -- a row that is added to gets the amounts, and no other does
-cell-added : (fate other : Fate) (p f b : ℕ) (grid : List ℕ) (c : Column) → length grid ≡ rows * columns
-    → cellIn (rowOf other) c (counting.addTo (rowOf fate) p f b grid) ≡ cellIn (rowOf other) c grid + inLine (row fate) (amount p f b c) (row other)
-unfolding inLine
-cell-added fate other p f b grid c formed = by-test (isLine (row fate) (row other)) refl
-  where
-    by-test : (t : Bool) → isLine (row fate) (row other) ≡ t
-        → cellIn (rowOf other) c (counting.addTo (rowOf fate) p f b grid) ≡ cellIn (rowOf other) c grid + (if isLine (row fate) (row other) then amount p f b c else 0)
-    by-test true e =
-        rw (if-true _ (amount p f b c) 0 e)
-        (subst (λ (at : ℕ). cellIn at c (counting.addTo (rowOf fate) p f b grid) ≡ cellIn at c grid + amount p f b c) (eqb-true _ _ e)
-        (cell-here (rowOf fate) p f b grid c formed (row-in-grid fate)))
-    by-test false e =
-        rw (if-false _ (amount p f b c) 0 e)
-        (cell-elsewhere (rowOf fate) p f b grid (rowOf other) c formed (row-in-grid fate) (λ q. eqb-false _ _ e (sym q)) ∙ omega arith)
+cell-added : (at p f b : ℕ) (grid : List ℕ) (other : Fate) (c : Column) → length grid ≡ rowCount * columns
+    → cellIn (rowOf other) c (counting.addTo at p f b grid) ≡ cellIn (rowOf other) c grid + inRow at (amountOf p f b c) other
+cell-added at p f b grid other c formed =
+    if-cases (λ (n : ℕ). cellIn (rowOf other) c (counting.addTo at p f b grid) ≡ cellIn (rowOf other) c grid + n) (eqb at (rowOf other)) _ _
+    (λ e.
+    let same : at ≡ rowOf other = eqb-true _ _ e in
+    subst (λ (r : ℕ). cellIn (rowOf other) c (counting.addTo r p f b grid) ≡ cellIn (rowOf other) c grid + amountOf p f b c) (sym same)
+    (cell-here (rowOf other) p f b grid c formed (row-in-grid other)))
+    (λ e. cell-elsewhere at p f b grid (rowOf other) c formed (λ q. eqb-false _ _ e (sym q)) ∙ omega arith)
 
-pub record Counts (maximum total : ℕ) (a : Account) (l : Ledger) : Type 0 where
+-- what is added to a row, and to the commands taken and refused, is what these items count
+pub record Adds (at p f b k q : ℕ) (more : List Item) : Type 0 where
+  pub in-rows : (other : Fate) (c : Column) → inRow at (amountOf p f b c) other ≡ countIn more (row other) c
+  pub in-taken : k ≡ countIn more taken fragments
+  pub in-refused : q ≡ countIn more refused fragments
+  pub none-open : (c : Column) → countIn more opened c ≡ 0
+
+pub adds-none : (p f b : ℕ) → Adds noRow p f b 0 0 []
+adds-none p f b = record { in-rows = λ other c. no-row (amountOf p f b c) other; in-taken = refl; in-refused = refl; none-open = λ c. refl }
+
+-- an item in a row
+adds-item : (fate : Fate) (item : Item) → item .line ≡ row fate → Adds (rowOf fate) (item .packetCount) (length (item .pieces)) (totalOf (item .pieces)) 0 0 (item ∷ [])
+adds-item fate item e = record {
+  in-rows = λ other c.
+      same-row fate (amountOf (item .packetCount) (length (item .pieces)) (totalOf (item .pieces)) c) other
+      ∙ (ap (λ (n : ℕ). inLine (row fate) n (row other)) (sym (amount-of item c)) ∙ (ap (λ (line : Line). inLine line (amount item c) (row other)) (sym e) ∙ omega arith));
+  in-taken = sym (elsewhere fragments taken (λ q. omega (arith, row-in-grid fate, q)));
+  in-refused = sym (elsewhere fragments refused (λ q. omega (arith, row-in-grid fate, q)));
+  none-open = λ c. elsewhere c opened (λ q. omega (arith, row-in-grid fate, q));
+}
+  where
+    elsewhere : (c : Column) (other : Line) → (rowOf fate ≡ lineNumber other → ⊥) → countIn (item ∷ []) other c ≡ 0
+    elsewhere c other n = omega (arith, ap (λ (line : Line). inLine line (amount item c) other) e, in-other-line (row fate) (amount item c) other n)
+
+pub adds-run : (fate : Fate) (pieces : List (List ℕ)) (f b : ℕ) → f ≡ length pieces → b ≡ totalOf pieces → Adds (rowOf fate) 1 f b 0 0 (run pieces (row fate) ∷ [])
+adds-run fate pieces f b ef eb = rw (ef, eb) (adds-item fate (run pieces (row fate)) refl)
+
+pub adds-alone : (fate : Fate) (piece : List ℕ) → Adds (rowOf fate) 0 1 (length piece) 0 0 (alone piece (row fate) ∷ [])
+adds-alone fate piece =
+    subst (λ (bytes : List ℕ). Adds (rowOf fate) 0 1 (length bytes) 0 0 (alone piece (row fate) ∷ [])) (append-nil piece) (adds-item fate (alone piece (row fate)) refl)
+
+pub adds-taken : Adds noRow 0 0 0 1 0 (alone [] taken ∷ [])
+unfolding amount inLine if_then_else_
+adds-taken = record {
+  in-rows = λ other c. no-row (amountOf 0 0 0 c) other ∙ sym (omega (arith, in-other-line taken (amount (alone [] taken) c) (row other) (λ q. omega (arith, row-in-grid other, q))));
+  in-taken = refl;
+  in-refused = refl;
+  none-open = λ c. refl;
+}
+
+pub adds-refused : Adds noRow 0 0 0 0 1 (alone [] refused ∷ [])
+unfolding amount inLine if_then_else_
+adds-refused = record {
+  in-rows = λ other c. no-row (amountOf 0 0 0 c) other ∙ sym (omega (arith, in-other-line refused (amount (alone [] refused) c) (row other) (λ q. omega (arith, row-in-grid other, q))));
+  in-taken = refl;
+  in-refused = refl;
+  none-open = λ c. refl;
+}
+
+-- the packet that ends, if one is open
+pub adds-closing : (fate : Fate) (held : List (List ℕ)) (f b : ℕ) → f ≡ length held → b ≡ totalOf held → Adds (endsIn (rowOf fate) f) 1 f b 0 0 (closing (row fate) held)
+unfolding endsIn
+adds-closing fate [] f b ef eb =
+    if-cases (λ (at : ℕ). Adds at 1 f b 0 0 []) (ltb 0 f) (rowOf fate) noRow
+    (λ e. absurd (omega (arith, borrow.Author.Tests.ltb-true 0 f e, ef))) (λ _. adds-none 1 f b)
+adds-closing fate (p ∷ ps) f b ef eb = rw (if-true (ltb 0 f) (rowOf fate) noRow (lt-ltb 0 f (omega (arith, ef)))) (adds-run fate (p ∷ ps) f b ef eb)
+
+-- nothing of it is left open then
+pub left-none : (fate : Fate) (held : List (List ℕ)) (f n : ℕ) → f ≡ length held → (f ≡ 0 → n ≡ 0) → counting.leftOpen (endsIn (rowOf fate) f) n ≡ 0
+unfolding endsIn counting.leftOpen
+left-none fate held f n ef none =
+    if-cases (λ (at : ℕ). (if ltb at rowCount then 0 else n) ≡ 0) (ltb 0 f) (rowOf fate) noRow
+    (λ _. if-true _ _ _ (lt-ltb _ _ (row-in-grid fate)))
+    (λ e. if-false (ltb noRow rowCount) 0 n refl ∙ none (omega (arith, borrow.Author.Tests.ltb-false 0 f e)))
+
+pub left-all : (n : ℕ) → counting.leftOpen noRow n ≡ n
+unfolding counting.leftOpen
+left-all n = if-false _ _ _ refl
+
+pub record Counts (a : Account) (held : List (List ℕ)) (done : List Item) (total : ℕ) : Type 0 where
   pub formed : Formed a
-  pub maximum-is : a .maximum ≡ maximum
-  pub total-is : a .total ≡ total
-  pub open-fragments : a .«open_fragments» ≡ length (l .held)
-  pub open-bytes : a .«open_bytes» ≡ length (concatenated (l .held))
-  pub cells : (fate : Fate) (c : Column) → cellIn (rowOf fate) c (a .grid) ≡ countRuns (l .done) (row fate) c + countSingles (l .alone) (row fate) c
-  pub taken-are : a .taken ≡ countSingles (l .alone) taken fragments
-  pub refused-are : a .refused ≡ countSingles (l .alone) refused fragments
+  pub total-is : a .beside .total ≡ total
+  pub open-fragments : a .beside .«open_fragments» ≡ length held
+  pub open-bytes : a .beside .«open_bytes» ≡ totalOf held
+  pub cells : (fate : Fate) (c : Column) → cellIn (rowOf fate) c (a .grid) ≡ countIn done (row fate) c
+  pub taken-are : a .beside .taken ≡ countIn done taken fragments
+  pub refused-are : a .beside .refused ≡ countIn done refused fragments
+  pub none-open : (c : Column) → countIn done opened c ≡ 0
 
-one-run-more : (rs : List Run) (pieces : List (List ℕ)) (end : End) (line : Line) (c : Column)
-    → countRuns (rs ++ run pieces end ∷ []) line c ≡ countRuns rs line c + inLine (lineOf end) (ofRun pieces c) line
-one-run-more rs pieces end line c = count-runs-append rs (run pieces end ∷ []) line c ∙ omega arith
+-- of a packet with no fragments, no bytes are open
+pub none-held : (held : List (List ℕ)) (f b : ℕ) → f ≡ length held → b ≡ totalOf held → f ≡ 0 → b ≡ 0
+none-held [] f b ef eb none = eb
+none-held (p ∷ ps) f b ef eb none = absurd (omega (arith, ef, none))
 
-one-single-more : (ss : List Single) (line : Line) (size : ℕ) (other : Line) (c : Column)
-    → countSingles (ss ++ single line size ∷ []) other c ≡ countSingles ss other c + inLine line (ofSingle size c) other
-one-single-more ss line size other c = count-singles-append ss (single line size ∷ []) other c ∙ omega arith
-
-pub concatenated-snoc : (pieces : List (List ℕ)) (piece : List ℕ) → concatenated (pieces ++ piece ∷ []) ≡ concatenated pieces ++ piece
-concatenated-snoc [] piece = append-nil piece
-concatenated-snoc (p ∷ ps) piece = rw (concatenated-snoc ps piece) (sym (mathlib.Core.List.append-assoc p (concatenated ps) piece))
-
--- a packet of these fragments is added to a row, and none is open
-abbrev packetAdded : Fate → List (List ℕ) → ℕ → Account → Account
-packetAdded fate pieces total a = counting.recounted a (counting.addTo (rowOf fate) 1 (length pieces) (length (concatenated pieces)) (a .grid)) 0 0 total
-
-packet-counts : {m t n : ℕ} (fate : Fate) (pieces : List (List ℕ)) (total : ℕ) → total ≡ n → (a : Account) (l : Ledger) → Counts m t a l
-    → Counts m n (packetAdded fate pieces total a) (ledger [] (l .done ++ run pieces (ended fate) ∷ []) (l .alone))
-packet-counts fate pieces total e a l i = record {
-  maximum-is = i .maximum-is;
-  total-is = e;
-  formed = added-length (a .grid) (rowOf fate) 1 (length pieces) (length (concatenated pieces)) (i .formed) (row-in-grid fate);
-  open-fragments = refl;
-  open-bytes = refl;
-  cells = λ other c.
-      cell-added fate other 1 (length pieces) (length (concatenated pieces)) (a .grid) c (i .formed)
-      ∙ omega (arith, i .cells other c, one-run-more (l .done) pieces (ended fate) (row other) c, ap (λ (n : ℕ). inLine (row fate) n (row other)) (of-run pieces c));
-  taken-are = i .taken-are;
-  refused-are = i .refused-are;
-}
-
-pub ended-counts : {m t : ℕ} (fate : Fate) (a : Account) (l : Ledger) → Counts m t a l
-    → Counts m t (counting.ended (rowOf fate) a) (ledger [] (l .done ++ closing (ended fate) (l .held)) (l .alone))
-unfolding counting.ended
-ended-counts {m} {t} fate a l i = by-held (l .held) refl
+-- a transaction is counted: the packet that it ends, and its own line
+pub counted-counts : {held : List (List ℕ)} {done : List Item} {total : ℕ} (o : Outcome) (ends size : ℕ) (a : Account) → Counts a held done total
+    → (held-after : List (List ℕ)) (closed own : List Item)
+    → Adds ends 1 (a .beside .«open_fragments») (a .beside .«open_bytes») 0 0 closed
+    → (at p f b openFragments openBytes k q : ℕ)
+    → counting.tallyOf o (counting.leftOpen ends (a .beside .«open_fragments»)) (counting.leftOpen ends (a .beside .«open_bytes»)) size ≡ counting.tally at p f b openFragments openBytes k q
+    → Adds at p f b k q own → openFragments ≡ length held-after → openBytes ≡ totalOf held-after
+    → Counts (counting.counted (judged o ends size) a) held-after ((done ++ closed) ++ own) (1 + total)
+unfolding counting.counted counting.gridAfter
+counted-counts {held} {done} {total} o ends size a i held-after closed own closes at p f b openFragments openBytes k q e mine ef eb =
+    subst (λ t. Counts (accountOf (counting.gridAfter ends (a .beside) t (a .grid)) (counting.besideAfter t (a .beside))) held-after ((done ++ closed) ++ own) (1 + total)) (sym e)
+    (record {
+      formed = added-formed first ends 1 (a .beside .«open_fragments») (a .beside .«open_bytes») first-formed;
+      total-is = omega (arith, i .total-is);
+      open-fragments = ef;
+      open-bytes = eb;
+      cells = λ fate c.
+          cell-added ends 1 (a .beside .«open_fragments») (a .beside .«open_bytes») first fate c first-formed
+          ∙ omega (arith, cell-added at p f b (a .grid) fate c (i .formed), i .cells fate c, closes .in-rows fate c, mine .in-rows fate c, sum (row fate) c);
+      taken-are = omega (arith, i .taken-are, closes .in-taken, mine .in-taken, sum taken fragments);
+      refused-are = omega (arith, i .refused-are, closes .in-refused, mine .in-refused, sum refused fragments);
+      none-open = λ c. omega (arith, i .none-open c, closes .none-open c, mine .none-open c, sum opened c);
+    })
   where
-    by-held : (held : List (List ℕ)) → l .held ≡ held
-        → Counts m t (counting.ended (rowOf fate) a) (ledger [] (l .done ++ closing (ended fate) held) (l .alone))
-    by-held [] e =
-        let none : a .«open_fragments» ≡ 0 = i .open-fragments ∙ ap length e in
-        rw (if-false _ _ _ (le-ltb 0 (a .«open_fragments») (omega arith)), append-nil)
-        (subst (λ (held : List (List ℕ)). Counts m t a (ledger held (l .done) (l .alone))) e i)
-    by-held (p ∷ ps) e =
-        let some : a .«open_fragments» ≡ length (p ∷ ps) = i .open-fragments ∙ ap length e in
-        let size : a .«open_bytes» ≡ length (concatenated (p ∷ ps)) = i .open-bytes ∙ ap (λ (ds : List (List ℕ)). length (concatenated ds)) e in
-        rw (if-true (isOpen a) _ _ (lt-ltb 0 (a .«open_fragments») (omega arith)), some, size)
-        (packet-counts fate (p ∷ ps) (a .total) (i .total-is) a l i)
+    first : List ℕ
+    first = counting.addTo at p f b (a .grid)
 
-pub finished-counts : {m t : ℕ} (fate : Fate) (piece : List ℕ) (a : Account) (l : Ledger) → Counts m t a l
-    → Counts m (t + 1) (counting.finished (rowOf fate) (length piece) a) (ledger [] (l .done ++ run (l .held ++ piece ∷ []) (ended fate) ∷ []) (l .alone))
-unfolding counting.finished
-finished-counts fate piece a l i =
-    let more : length (l .held ++ piece ∷ []) ≡ a .«open_fragments» + 1 = length-append (l .held) (piece ∷ []) ∙ omega (arith, i .open-fragments) in
-    let size : length (concatenated (l .held ++ piece ∷ [])) ≡ a .«open_bytes» + length piece = ap length (concatenated-snoc (l .held) piece) ∙ length-append (concatenated (l .held)) piece ∙ omega (arith, i .open-bytes) in
-    rw (← more, ← size) (packet-counts fate (l .held ++ piece ∷ []) (a .total + 1) (ap (λ (n : ℕ). n + 1) (i .total-is)) a l i)
+    first-formed : length first ≡ rowCount * columns
+    first-formed = added-formed (a .grid) at p f b (i .formed)
 
-pub grown-counts : {m t : ℕ} (piece : List ℕ) (a : Account) (l : Ledger) → Counts m t a l
-    → Counts m (t + 1) (counting.grown (length piece) a) (ledger (l .held ++ piece ∷ []) (l .done) (l .alone))
-unfolding counting.grown
-grown-counts piece a l i = record {
-  maximum-is = i .maximum-is;
-  total-is = ap (λ (n : ℕ). n + 1) (i .total-is);
-  formed = i .formed;
-  open-fragments = sym (length-append (l .held) (piece ∷ []) ∙ omega (arith, i .open-fragments));
-  open-bytes = sym (ap length (concatenated-snoc (l .held) piece) ∙ length-append (concatenated (l .held)) piece ∙ omega (arith, i .open-bytes));
-  cells = i .cells;
-  taken-are = i .taken-are;
-  refused-are = i .refused-are;
-}
-
-pub single-counts : {m t : ℕ} (fate : Fate) (size : ℕ) (a : Account) (l : Ledger) → Counts m t a l
-    → Counts m (t + 1) (counting.single (rowOf fate) size a) (ledger (l .held) (l .done) (l .alone ++ single (row fate) size ∷ []))
-unfolding counting.single
-single-counts fate size a l i = record {
-  maximum-is = i .maximum-is;
-  total-is = ap (λ (n : ℕ). n + 1) (i .total-is);
-  formed = added-length (a .grid) (rowOf fate) 0 1 size (i .formed) (row-in-grid fate);
-  open-fragments = i .open-fragments;
-  open-bytes = i .open-bytes;
-  cells = λ other c.
-      cell-added fate other 0 1 size (a .grid) c (i .formed)
-      ∙ omega (arith, i .cells other c, one-single-more (l .alone) (row fate) size (row other) c, ap (λ (n : ℕ). inLine (row fate) n (row other)) (of-single size c));
-  taken-are = i .taken-are ∙ sym (beside taken 10 refl (omega arith));
-  refused-are = i .refused-are ∙ sym (beside refused 11 refl (omega arith));
-}
-  where
-    -- what stands in a row stands in no line beside the grid
-    beside : (line : Line) (place : ℕ) → lineNumber line ≡ place → rows < place → countSingles (l .alone ++ single (row fate) size ∷ []) line fragments ≡ countSingles (l .alone) line fragments
-    beside line place e h =
-        one-single-more (l .alone) (row fate) size line fragments
-        ∙ omega (arith, in-other-line (row fate) (ofSingle size fragments) line (λ q. omega (arith, row-in-grid fate, q, e)))
-
--- a command stands in its line, and in no row
-abbrev pub commandLine : Bool → Line
-commandLine true = taken
-commandLine false = refused
-
-pub commanded-counts : {m t : ℕ} (isTaken : Bool) (a : Account) (l : Ledger) → Counts m t a l
-    → Counts m (t + 1) (counting.commanded isTaken a) (ledger (l .held) (l .done) (l .alone ++ single (commandLine isTaken) 0 ∷ []))
-unfolding counting.commanded if_then_else_ ofSingle
-commanded-counts true a l i = record {
-  maximum-is = i .maximum-is;
-  total-is = ap (λ (n : ℕ). n + 1) (i .total-is);
-  formed = i .formed;
-  open-fragments = i .open-fragments;
-  open-bytes = i .open-bytes;
-  cells = λ other c. omega (arith, i .cells other c, one-single-more (l .alone) taken 0 (row other) c, in-other-line taken (ofSingle 0 c) (row other) (λ q. omega (arith, row-in-grid other, q)));
-  taken-are = omega (arith, i .taken-are, one-single-more (l .alone) taken 0 taken fragments, in-same-line taken 1);
-  refused-are = omega (arith, i .refused-are, one-single-more (l .alone) taken 0 refused fragments, in-other-line taken 1 refused (λ q. omega (arith, q)));
-}
-commanded-counts false a l i = record {
-  maximum-is = i .maximum-is;
-  total-is = ap (λ (n : ℕ). n + 1) (i .total-is);
-  formed = i .formed;
-  open-fragments = i .open-fragments;
-  open-bytes = i .open-bytes;
-  cells = λ other c. omega (arith, i .cells other c, one-single-more (l .alone) refused 0 (row other) c, in-other-line refused (ofSingle 0 c) (row other) (λ q. omega (arith, row-in-grid other, q)));
-  taken-are = omega (arith, i .taken-are, one-single-more (l .alone) refused 0 taken fragments, in-other-line refused 1 taken (λ q. omega (arith, q)));
-  refused-are = omega (arith, i .refused-are, one-single-more (l .alone) refused 0 refused fragments, in-same-line refused 1);
-}
+    sum : (line : Line) (c : Column) → countIn ((done ++ closed) ++ own) line c ≡ countIn done line c + countIn closed line c + countIn own line c
+    sum line c = count-append (done ++ closed) own line c ∙ ap (λ (n : ℕ). n + countIn own line c) (count-append done closed line c)

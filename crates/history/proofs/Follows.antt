@@ -1,33 +1,34 @@
--- What the rules make of a transaction follows what its role does to the ledger.
+-- What the rules make of a transaction follows what its role does to what is done and held.
 -- Assumes nothing.
 use Prim.Native.Nat.{ℕ, _+_, _≤_}
-use mathlib.Core.Bool.{Bool, true, false}
+use mathlib.Core.Bool.{Bool, true, false, not}
 use mathlib.Core.List.{List, [], _∷_, _++_, append-nil}
 use mathlib.Core.Path.{_≡_, refl, sym, ap, _∙_, subst}
 use native.Mathlib.Omega.{arith}
-use lib.Dec.{ltb, leb}
-use lib.ListN.{length, getD, length-append}
-use borrow.Author.Tests.{ltb-false, leb-true, leb-false}
-use Rattle.prelude.specs.Choice.{if_then_else_, _and_, _or_}
-use Rattle.prelude.proofs.Tests.{if-true, if-false, if-cases, if-first, if-second}
-use Rattle.packet.specs.Store.{maxPacket, appended, filled, sentLength}
+use lib.Dec.{eqb, ltb, leb}
+use lib.ListN.{length, length-append}
+use borrow.Author.Tests.{ltb-false, lt-ltb, le-ltb, leb-true, leb-false, ne-eqb}
+use Rattle.prelude.specs.Choice.{if_then_else_, _and_}
+use Rattle.prelude.proofs.Tests.{if-false}
+use Rattle.packet.specs.Store.{maxPacket, minPacket, appended, filled}
+use Rattle.packet.specs.Store as store-of
 use Rattle.state.specs.declared.Account.{Account}
+use Rattle.state.specs.Account.{noRow}
 use Rattle.outcome.specs.declared.Cause.the-variants as cause
 use Rattle.outcome.specs.declared.Outcome.{Outcome}
 use Rattle.outcome.specs.declared.Outcome.the-variants as outcome
-use Rattle.translator.specs.declared.Transacted.{Transacted}
+use Rattle.outcome.specs.declared.Reply.{Reply}
+use Rattle.outcome.specs.Outcome.{replyTo}
 use Rattle.translator.specs.Counting as counting
-use Rattle.translator.specs.Transact as transact
-use Rattle.translator.proofs.Laws.{fragment-empty, fragment-too-long, fragment-first, fragment-goes-on, fragment-aborted}
-use Rattle.history.specs.Lines.{Fate, rowOf, sent, superseded, flushed, broken, over, short, linkdown, aborted, badlength, Line, row, opened, taken}
-use Rattle.history.specs.Reading.{transaction, isLengthAllowed, isTaken, flush, badFragment, Role, fragment, ends, passes}
-use Rattle.history.specs.Runs.{concatenated, ended, Run, run, atLast, single, withFill, ifSent, packetsSent}
-use Rattle.history.specs.Calls.{packetOf}
-use Rattle.history.specs.Answers.{answerLines}
-use Rattle.outcome.specs.Outcome.{numberOf}
-use Rattle.history.proofs.Ledger.{Ledger, ledger, closing, takenIn, continued, takenInLine, continuedLine, lineOn, step, sent-append}
-use Rattle.history.proofs.Counts.{Counts, concatenated-snoc, ended-counts, finished-counts, grown-counts, single-counts, commanded-counts}
-use Rattle.history.proofs.Counts.{commandLine as lineOfCommand}
+use Rattle.translator.specs.Judge as judge
+use Rattle.history.specs.Lines.{Fate, rowOf, sent, superseded, flushed, broken, over, short, linkdown, aborted, badlength, row, lineOf}
+use Rattle.history.specs.Packets.{concatenated, totalOf, sentLength}
+use Rattle.history.specs.Reading.{Setup, isLengthAllowed}
+use Rattle.history.specs.Runs.{Role, begins, goesOn, ends, passes, Item, run, alone, lastAnswer, completed, packetsSent}
+use Rattle.history.specs.Replies.{answered, lastReply, takenReply, replyOn}
+use Rattle.history.specs.Calls.{packetsOf}
+use Rattle.history.proofs.Cutting.{heldOn, closing, closed, own, Alone, of-3, of-7, of-8, of-9, of-10, of-11, alone-not-sent, sent-append}
+use Rattle.history.proofs.Counts.{Counts, Adds, adds-none, adds-run, adds-alone, adds-closing, left-none, left-all, none-held, counted-counts}
 use Rattle.history.proofs.Holds.{Holds, holds-nothing, appended-holds, filled-length, sent-shown}
 
 -- two choices by one test
@@ -36,159 +37,276 @@ unfolding if_then_else_
 if-both P true a b c d p q = p refl
 if-both P false a b c d p q = q refl
 
--- a result and the store it leaves, after these packets were sent, where the rest of the store was not lent
-pub record Follows (maximum total size : ℕ) (before : List (List ℕ)) (rest : List ℕ) (result : Transacted) (store : List ℕ) (line : Line) (l : Ledger) : Type 0 where
-  pub counts : Counts maximum total (result .account) l
-  pub holds : Holds size store (l .held)
-  pub sent-are : before ++ packetOf (result .outcome) (store ++ rest) ≡ packetsSent (l .done)
-  pub answer-is : getD answerLines (numberOf (result .outcome)) opened ≡ line
+pub concatenated-snoc : (pieces : List (List ℕ)) (piece : List ℕ) → concatenated (pieces ++ piece ∷ []) ≡ concatenated pieces ++ piece
+concatenated-snoc [] piece = append-nil piece
+concatenated-snoc (p ∷ ps) piece = rw (concatenated-snoc ps piece) (sym (mathlib.Core.List.append-assoc p (concatenated ps) piece))
 
--- a run that has not been sent adds no packet
-unsent-run : (fate : Fate) (pieces : List (List ℕ)) → (rowOf fate ≡ 0 → ⊥) → ifSent (ended fate) pieces ≡ []
-unfolding ifSent
-unsent-run fate pieces n = if-false _ _ _ (borrow.Author.Tests.ne-eqb (rowOf fate) 0 n)
+pub total-snoc : (pieces : List (List ℕ)) (piece : List ℕ) → totalOf (pieces ++ piece ∷ []) ≡ totalOf pieces + length piece
+total-snoc pieces piece = ap length (concatenated-snoc pieces piece) ∙ length-append (concatenated pieces) piece
 
-closing-unsent : (fate : Fate) (held : List (List ℕ)) (before : List (List ℕ)) (done : List Run) → (rowOf fate ≡ 0 → ⊥) → before ≡ packetsSent done → before ≡ packetsSent (done ++ closing (ended fate) held)
-closing-unsent fate [] before done n e = e ∙ sym (ap packetsSent (append-nil done))
-closing-unsent fate (p ∷ ps) before done n e =
-    e ∙ sym (sent-append done (run (p ∷ ps) (ended fate) ∷ []) ∙ rw (unsent-run fate (p ∷ ps) n) (append-nil (packetsSent done)))
+-- a packet that ends unsent adds none
+closing-unsent : (fate : Fate) (held : List (List ℕ)) → (rowOf fate ≡ 0 → ⊥) → packetsSent (closing (row fate) held) ≡ []
+closing-unsent fate [] n = refl
+closing-unsent fate (p ∷ ps) n = ap (λ (ps : List (List ℕ)). ps ++ []) (if-false _ _ _ (ne-eqb (rowOf fate) 0 n))
 
-sent-run : (pieces : List (List ℕ)) → ifSent (ended sent) pieces ≡ withFill (concatenated pieces) ∷ []
-unfolding ifSent
-sent-run pieces = if-true _ _ _ refl
+run-unsent : (fate : Fate) (pieces : List (List ℕ)) → (rowOf fate ≡ 0 → ⊥) → packetsSent (run pieces (row fate) ∷ []) ≡ []
+run-unsent fate pieces n = ap (λ (ps : List (List ℕ)). ps ++ []) (if-false _ _ _ (ne-eqb (rowOf fate) 0 n))
 
-one-run-sent : (done : List Run) (pieces : List (List ℕ)) (fate : Fate) → packetsSent (done ++ run pieces (ended fate) ∷ []) ≡ packetsSent done ++ ifSent (ended fate) pieces
-one-run-sent done pieces fate = sent-append done (run pieces (ended fate) ∷ []) ∙ ap (λ (ps : List (List ℕ)). packetsSent done ++ ps) (append-nil (ifSent (ended fate) pieces))
+-- the role of a fragment with these flags
+abbrev pub fragmentRole : (piece : List ℕ) (last linkUp : Bool) → Setup → (first : Bool) → Role
+fragmentRole piece last linkUp setup first = if not (isLengthAllowed setup piece) then ends broken 3 else if first then begins last piece linkUp else goesOn last piece linkUp
 
--- a test of the length as the history makes it
-length-allowed : (maximum : ℕ) (bytes : List ℕ) → isLengthAllowed maximum bytes ≡ true → (1 ≤ length bytes) × (length bytes ≤ maximum)
-unfolding isLengthAllowed
-length-allowed maximum bytes e = (leb-true _ _ (if-first _ _ e), leb-true _ _ (if-second _ _ e))
+-- what is held and done once these fragments were joined, Last or not
+abbrev afterLast : Bool → List (List ℕ) → List (List ℕ)
+afterLast true pieces = []
+afterLast false pieces = pieces
 
-module _ (maximum total size : ℕ) (before : List (List ℕ)) (rest : List ℕ) where
-  module _ (a : Account) (l : Ledger) (counts : Counts maximum total a l) (sent-before : before ≡ packetsSent (l .done)) where
-    -- nothing was sent, and the store was not touched
-    same-store : (b : Account) (o : Outcome) (store : List ℕ) (line : Line) (m : Ledger) → getD answerLines (numberOf o) opened ≡ line → packetOf o (store ++ rest) ≡ [] → Counts maximum (total + 1) b m → Holds size store (m .held) → before ≡ packetsSent (m .done)
-        → Follows maximum (total + 1) size before rest (transact.with b o) store line m
-    same-store b o store line m answer none after holds e = record { counts = after; holds = holds; sent-are = rw (none, append-nil) e; answer-is = answer }
+abbrev completes : Bool → Bool → List (List ℕ) → List Item
+completes true linkUp pieces = completed linkUp pieces ∷ []
+completes false linkUp pieces = []
 
-    -- a Last is taken
-    module _ (piece : List ℕ) where
-      abbrev pieces : List (List ℕ)
-      pieces = l .held ++ piece ∷ []
+-- of what was done, held and sent before, in a store of which the rest was not lent
+module _ (a : Account) (held : List (List ℕ)) (done : List Item) (total : ℕ) (counts : Counts a held done total) (before : List (List ℕ)) (sent-before : before ≡ packetsSent done) (size : ℕ) (rest : List ℕ) where
+  abbrev openFragments : ℕ
+  openFragments = a .beside .«open_fragments»
 
-      abbrev Finished : transact.Stored → Fate → Type 0
-      Finished s fate = Follows maximum (total + 1) size before rest (s .result) (s .store) (row fate) (ledger [] (l .done ++ run pieces (ended fate) ∷ []) (l .alone))
+  abbrev openBytes : ℕ
+  openBytes = a .beside .«open_bytes»
 
-      unsent-finished : (fate : Fate) (o : Outcome) (store : List ℕ) → (rowOf fate ≡ 0 → ⊥) → getD answerLines (numberOf o) opened ≡ row fate → packetOf o (store ++ rest) ≡ [] → Holds size store pieces
-          → Finished (transact.stored (transact.with (counting.finished (rowOf fate) (length piece) a) o) store) fate
-      unsent-finished fate o store n answer none holds =
-          same-store _ o store _ _ answer none (finished-counts fate piece a l counts) (holds-nothing store (holds .size-is) (holds .room))
-          (sent-before ∙ sym (one-run-sent (l .done) pieces fate ∙ rw (unsent-run fate pieces n) (append-nil (packetsSent (l .done)))))
+  -- an outcome with the row of the packet that it ends and the bytes that it counts, and the store that it leaves
+  pub record Goes (o : Outcome) (ending bytes : ℕ) (store : List ℕ) (held-after : List (List ℕ)) (closes owns : List Item) (reply : Reply) : Type 0 where
+    pub counts-are : Counts (counting.counted (judge.judged o ending bytes) a) held-after ((done ++ closes) ++ owns) (1 + total)
+    pub holds : Holds size store held-after
+    pub sent-are : before ++ packetsOf (replyTo o) (store ++ rest) ≡ packetsSent ((done ++ closes) ++ owns)
+    pub reply-is : replyTo o ≡ reply
 
-      sent-finished : (store : List ℕ) → length (concatenated pieces) ≤ maxPacket → Holds size store pieces
-          → Finished (transact.stored (transact.with (counting.finished (rowOf sent) (length piece) a) (outcome.Sent (sentLength (length (concatenated pieces))))) (filled store (length (concatenated pieces)))) sent
-      sent-finished store within holds = record {
-        counts = finished-counts sent piece a l counts;
-        holds = holds-nothing (filled store (length (concatenated pieces))) (filled-length store (length (concatenated pieces)) ∙ holds .size-is) (rw (filled-length store (length (concatenated pieces))) (holds .room));
-        sent-are = rw (sent-shown store rest pieces holds within, sent-before) (sym (one-run-sent (l .done) pieces sent ∙ rw (sent-run pieces)));
-        answer-is = refl;
-      }
+  abbrev pub Follows : Outcome → ℕ → ℕ → List ℕ → Role → Type 0
+  Follows o ending bytes store role = Goes o ending bytes store (heldOn role held) (closed role held) (own role held) (replyOn role held)
 
-      last-follows : (linkUp : Bool) (store : List ℕ) → Holds size store pieces → Finished (transact.lastJudged (length piece) linkUp a store) (atLast linkUp pieces)
-      unfolding transact.lastJudged atLast
-      last-follows linkUp store holds =
-          let sum : a .«open_bytes» + length piece ≡ length (concatenated pieces) = sym (ap length (concatenated-snoc (l .held) piece) ∙ length-append (concatenated (l .held)) piece ∙ omega (arith, counts .open-bytes)) in
-          rw sum
-          (if-both Finished (ltb maxPacket (length (concatenated pieces))) _ _ _ _
-          (λ _. unsent-finished over (outcome.Discarded cause.Over) store (λ q. omega (arith, q)) refl refl holds)
-          (λ within. if-both Finished (ltb (length (concatenated pieces)) transact.minPacket) _ _ _ _
-          (λ _. unsent-finished short (outcome.Discarded cause.Short) store (λ q. omega (arith, q)) refl refl holds)
-          (λ _. if-both Finished linkUp _ _ _ _
-          (λ _. sent-finished store (ltb-false maxPacket (length (concatenated pieces)) within) holds)
-          (λ _. unsent-finished linkdown (outcome.Discarded cause.LinkDown) store (λ q. omega (arith, q)) refl refl holds))))
+  -- what was sent, where the packet that ends was not
+  sent-then : (closes owns : List Item) (more : List (List ℕ)) → packetsSent closes ≡ [] → packetsSent owns ≡ more → before ++ more ≡ packetsSent ((done ++ closes) ++ owns)
+  sent-then closes owns more none is =
+      sym (sent-append (done ++ closes) owns
+      ∙ (ap (λ (ps : List (List ℕ)). ps ++ packetsSent owns) (sent-append done closes ∙ (ap (λ (ps : List (List ℕ)). packetsSent done ++ ps) none ∙ append-nil (packetsSent done)))
+      ∙ (ap (λ (ps : List (List ℕ)). packetsSent done ++ ps) is ∙ ap (λ (ps : List (List ℕ)). ps ++ more) (sym sent-before))))
 
-      -- a fragment joins the packet, and is Last or not
-      joined-follows : (at : ℕ) → at ≡ length (concatenated (l .held)) → (last linkUp : Bool) (store : List ℕ) → Holds size store (l .held)
-          → (let s : transact.Stored = transact.joined at piece last linkUp a store in
-          Follows maximum (total + 1) size before rest (s .result) (s .store) (takenInLine last linkUp pieces) (takenIn last linkUp pieces (l .done) (l .alone)))
-      unfolding transact.joined if_then_else_
-      joined-follows at e true linkUp store holds = last-follows linkUp (appended store at piece) (rw e (appended-holds store piece (l .held) holds))
-      joined-follows at e false linkUp store holds =
-          same-store _ outcome.Taken _ _ _ refl refl (grown-counts piece a l counts) (rw e (appended-holds store piece (l .held) holds)) sent-before
+  -- a fragment joins these fragments, behind the packet that it ends
+  module _ (joining : List (List ℕ)) (piece : List ℕ) (at ending : ℕ) (closes : List Item) (at-is : at ≡ totalOf joining)
+      (left-fragments : counting.leftOpen ending openFragments ≡ length joining) (left-bytes : counting.leftOpen ending openBytes ≡ totalOf joining)
+      (closes-adds : Adds ending 1 openFragments openBytes 0 0 closes) (closes-unsent : packetsSent closes ≡ []) (linkUp : Bool) (store : List ℕ) (holds : Holds size store joining) where
+    abbrev pieces : List (List ℕ)
+    pieces = joining ++ piece ∷ []
+
+    abbrev written : List ℕ
+    written = appended store at piece
+
+    written-holds : Holds size written pieces
+    written-holds = rw at-is (appended-holds store piece joining holds)
+
+    more-fragments : counting.leftOpen ending openFragments + 1 ≡ length pieces
+    more-fragments = sym (length-append joining (piece ∷ []) ∙ omega (arith, left-fragments))
+
+    more-bytes : counting.leftOpen ending openBytes + length piece ≡ totalOf pieces
+    more-bytes = sym (total-snoc joining piece ∙ omega (arith, left-bytes))
+
+    open-goes : Goes outcome.Joined ending (length piece) written pieces closes [] (answered 0)
+    unfolding packetsOf if_then_else_
+    open-goes = record {
+      counts-are =
+          counted-counts outcome.Joined ending (length piece) a counts pieces closes [] closes-adds _ _ _ _ _ _ _ _ refl (adds-none 0 0 0) more-fragments more-bytes;
+      holds = written-holds;
+      sent-are = sent-then closes [] [] closes-unsent refl;
+      reply-is = refl;
+    }
+
+    abbrev Ends : Outcome → ℕ → Type 0
+    Ends o answer =
+        Goes o ending (length piece) (judge.filledIf o (totalOf pieces) written) [] closes (run pieces (lineOf answer) ∷ [])
+        (record { answer = answer; sent = if eqb answer 1 then sentLength (totalOf pieces) else 0 })
+
+    ended-counts : (o : Outcome) (fate : Fate)
+        → counting.tallyOf o (counting.leftOpen ending openFragments) (counting.leftOpen ending openBytes) (length piece) ≡ counting.whole (rowOf fate) (counting.leftOpen ending openFragments) (counting.leftOpen ending openBytes) (length piece)
+        → Counts (counting.counted (judge.judged o ending (length piece)) a) [] ((done ++ closes) ++ run pieces (row fate) ∷ []) (1 + total)
+    ended-counts o fate e =
+        counted-counts o ending (length piece) a counts [] closes (run pieces (row fate) ∷ []) closes-adds _ _ _ _ _ _ _ _ e (adds-run fate pieces _ _ more-fragments more-bytes) refl refl
+
+    nothing-held : Holds size written []
+    nothing-held = holds-nothing written (written-holds .size-is) (written-holds .room)
+
+    over-goes : Ends (outcome.Discarded cause.Over) 4
+    unfolding judge.filledIf packetsOf if_then_else_
+    over-goes = record {
+      counts-are = ended-counts (outcome.Discarded cause.Over) over refl;
+      holds = nothing-held;
+      sent-are = sent-then closes (run pieces (row over) ∷ []) [] closes-unsent (run-unsent over pieces (λ q. omega (arith, q)));
+      reply-is = refl;
+    }
+
+    short-goes : Ends (outcome.Discarded cause.Short) 5
+    unfolding judge.filledIf packetsOf if_then_else_
+    short-goes = record {
+      counts-are = ended-counts (outcome.Discarded cause.Short) short refl;
+      holds = nothing-held;
+      sent-are = sent-then closes (run pieces (row short) ∷ []) [] closes-unsent (run-unsent short pieces (λ q. omega (arith, q)));
+      reply-is = refl;
+    }
+
+    linkdown-goes : Ends (outcome.Discarded cause.LinkDown) 6
+    unfolding judge.filledIf packetsOf if_then_else_
+    linkdown-goes = record {
+      counts-are = ended-counts (outcome.Discarded cause.LinkDown) linkdown refl;
+      holds = nothing-held;
+      sent-are = sent-then closes (run pieces (row linkdown) ∷ []) [] closes-unsent (run-unsent linkdown pieces (λ q. omega (arith, q)));
+      reply-is = refl;
+    }
+
+    sent-goes : totalOf pieces ≤ maxPacket → Ends (outcome.Sent (store-of.sentLength (totalOf pieces))) 1
+    unfolding judge.filledIf packetsOf sentLength store-of.sentLength if_then_else_
+    sent-goes within = record {
+      counts-are = ended-counts (outcome.Sent (store-of.sentLength (totalOf pieces))) sent refl;
+      holds = holds-nothing (filled written (totalOf pieces)) (filled-length written (totalOf pieces) ∙ written-holds .size-is) (rw (filled-length written (totalOf pieces)) (written-holds .room));
+      sent-are = sent-then closes (run pieces (row sent) ∷ []) _ closes-unsent (ap (λ (p : List ℕ). p ∷ []) (sym (sent-shown written rest pieces written-holds within)));
+      reply-is = refl;
+    }
+
+    last-goes : Ends (judge.completedOf (totalOf pieces) linkUp) (lastAnswer linkUp (totalOf pieces))
+    unfolding judge.completedOf lastAnswer
+    last-goes =
+        if-both Ends (ltb maxPacket (totalOf pieces)) _ _ _ _ (λ _. over-goes)
+        (λ within. if-both Ends (ltb (totalOf pieces) minPacket) _ _ _ _ (λ _. short-goes)
+        (λ _. if-both Ends linkUp _ _ _ _ (λ _. sent-goes (ltb-false maxPacket (totalOf pieces) within)) (λ _. linkdown-goes)))
+
+    joined-goes : (last : Bool)
+        → (let s : judge.Stored = judge.joined at ending piece last linkUp store in
+        Goes (s .result .outcome) (s .result .ends) (s .result .bytes) (s .store) (afterLast last pieces) closes (completes last linkUp pieces) (takenReply last linkUp pieces))
+    unfolding judge.joined lastReply if_then_else_
+    joined-goes true =
+        let sum : at + length piece ≡ totalOf pieces = sym (total-snoc joining piece ∙ omega (arith, at-is)) in
+        rw sum last-goes
+    joined-goes false = open-goes
 
   -- a fragment, as the rules take it and as the history reads it
-  module _ (a : Account) (l : Ledger) (counts : Counts maximum total a l) (sent-before : before ≡ packetsSent (l .done)) (store : List ℕ) (holds : Holds size store (l .held)) (bytes : List ℕ) (last linkUp : Bool) where
-    abbrev Goes : transact.Stored → Line → Ledger → Type 0
-    Goes s line m = Follows maximum (total + 1) size before rest (s .result) (s .store) line m
+  module _ (store : List ℕ) (holds : Holds size store held) (piece : List ℕ) (last linkUp : Bool) where
+    abbrev Stores : judge.Stored → Role → Type 0
+    Stores s role = Follows (s .result .outcome) (s .result .ends) (s .result .bytes) (s .store) role
 
-    first-follows : 1 ≤ length bytes → length bytes ≤ a .maximum → Goes (transact.fragment bytes true last linkUp a store) (lineOn (fragment true last bytes linkUp) (l .held)) (step (fragment true last bytes linkUp) l)
-    first-follows some few =
-        rw (fragment-first bytes last linkUp a store some few)
-        (joined-follows (counting.ended (rowOf superseded) a) (ledger [] (l .done ++ closing (ended superseded) (l .held)) (l .alone))
-        (ended-counts superseded a l counts)
-        (closing-unsent superseded (l .held) before (l .done) (λ q. omega (arith, q)) sent-before)
-        bytes 0 refl last linkUp store (holds-nothing store (holds .size-is) (holds .room)))
-
-    later-follows : 1 ≤ length bytes → length bytes ≤ a .maximum → Goes (transact.fragment bytes false last linkUp a store) (lineOn (fragment false last bytes linkUp) (l .held)) (step (fragment false last bytes linkUp) l)
-    later-follows some few = by-held (l .held) refl
+    first-follows : Stores (judge.joined 0 (judge.endsIn (rowOf superseded) openFragments) piece last linkUp store) (begins last piece linkUp)
+    first-follows =
+        by-last last
+        (joined-goes [] piece 0 (judge.endsIn (rowOf superseded) openFragments) (closing (row superseded) held) refl
+        (left-none superseded held openFragments openFragments (counts .open-fragments) (λ none. none))
+        (left-none superseded held openFragments openBytes (counts .open-fragments) (none-held held openFragments openBytes (counts .open-fragments) (counts .open-bytes)))
+        (adds-closing superseded held openFragments openBytes (counts .open-fragments) (counts .open-bytes))
+        (closing-unsent superseded held (λ q. omega (arith, q))) linkUp store (holds-nothing store (holds .size-is) (holds .room)))
       where
-        by-held : (held : List (List ℕ)) → l .held ≡ held → Goes (transact.fragment bytes false last linkUp a store) (continuedLine last linkUp bytes held) (continued last linkUp bytes held (l .done) (l .alone))
-        by-held [] e =
-            let none : a .«open_fragments» ≡ 0 = counts .open-fragments ∙ ap length e in
-            rw (fragment-aborted bytes last linkUp a store some few (omega arith))
-            (subst (λ (h : List (List ℕ)). Follows maximum (total + 1) size before rest (transact.with (counting.single (rowOf aborted) (length bytes) a) (outcome.Discarded cause.Aborted)) store (row aborted) (ledger h (l .done) (l .alone ++ single (row aborted) (length bytes) ∷ []))) e
-            (same-store a l counts sent-before _ _ store _ _ refl refl (single-counts aborted (length bytes) a l counts) holds sent-before))
-        by-held (p ∷ ps) e =
-            let some-open : a .«open_fragments» ≡ length (p ∷ ps) = counts .open-fragments ∙ ap length e in
-            rw (fragment-goes-on bytes last linkUp a store some few (omega arith))
-            (subst (λ (h : List (List ℕ)). Goes (transact.joined (a .«open_bytes») bytes last linkUp a store) (takenInLine last linkUp (h ++ bytes ∷ [])) (takenIn last linkUp (h ++ bytes ∷ []) (l .done) (l .alone))) e
-            (joined-follows a l counts sent-before bytes (a .«open_bytes») (counts .open-bytes) last linkUp store holds))
+        by-last : (l : Bool)
+            → ((l : Bool)
+            → (let s : judge.Stored = judge.joined 0 (judge.endsIn (rowOf superseded) openFragments) piece l linkUp store in
+            Goes (s .result .outcome) (s .result .ends) (s .result .bytes) (s .store) (afterLast l (piece ∷ [])) (closing (row superseded) held) (completes l linkUp (piece ∷ [])) (takenReply l linkUp (piece ∷ []))))
+            → Stores (judge.joined 0 (judge.endsIn (rowOf superseded) openFragments) piece l linkUp store) (begins l piece linkUp)
+        by-last true goes = goes true
+        by-last false goes = goes false
 
-    bad-follows : (first : Bool) (s : transact.Stored)
-        → s ≡ transact.stored (transact.badLength a) store
-        → Goes s (lineOn (ends badFragment (row badlength)) (l .held)) (step (ends badFragment (row badlength)) l)
-    unfolding transact.badLength
-    bad-follows first s e =
-        rw e
-        (same-store a l counts sent-before _ _ store _ _ refl refl
-        (single-counts badlength 0 _ _ (ended-counts broken a l counts))
-        (holds-nothing store (holds .size-is) (holds .room))
-        (closing-unsent broken (l .held) before (l .done) (λ q. omega (arith, q)) sent-before))
-
-    allowed-follows : (first : Bool) → 1 ≤ length bytes → length bytes ≤ a .maximum → Goes (transact.fragment bytes first last linkUp a store) (lineOn (fragment first last bytes linkUp) (l .held)) (step (fragment first last bytes linkUp) l)
-    allowed-follows true some few = first-follows some few
-    allowed-follows false some few = later-follows some few
-
-    -- the role of a fragment with these flags
-    abbrev fragmentRole : Bool → Role
-    fragmentRole first = if isLengthAllowed (a .maximum) bytes then fragment first last bytes linkUp else ends badFragment (row badlength)
-
-    pub fragment-follows : (first : Bool) → Goes (transact.fragment bytes first last linkUp a store) (lineOn (fragmentRole first) (l .held)) (step (fragmentRole first) l)
-    unfolding isLengthAllowed
-    fragment-follows first =
-        if-cases (λ (role : Role). Goes (transact.fragment bytes first last linkUp a store) (lineOn role (l .held)) (step role l)) _ _ _
-        (λ e. let within : (1 ≤ length bytes) × (length bytes ≤ a .maximum) = length-allowed (a .maximum) bytes e in allowed-follows first (within .0) (within .1))
-        (λ e. bad-follows first _ (bad e))
+    later-follows : Stores (judge.bySequence (judge.sequenceOf false openFragments openBytes) piece last linkUp store) (goesOn last piece linkUp)
+    unfolding judge.sequenceOf judge.bySequence packetsOf if_then_else_
+    later-follows = by-held held refl last
       where
-        by-test : (t : Bool) → leb 1 (length bytes) ≡ t → isLengthAllowed (a .maximum) bytes ≡ false
-            → transact.fragment bytes first last linkUp a store ≡ transact.stored (transact.badLength a) store
-        by-test true some e =
-            fragment-too-long bytes last linkUp a store first (leb-true _ _ some) (leb-false (length bytes) (a .maximum) (sym (if-true (leb 1 (length bytes)) (leb (length bytes) (a .maximum)) false some) ∙ e))
-        by-test false none e = fragment-empty bytes last linkUp a store first (leb-false 1 (length bytes) none)
+        Later : List (List ℕ) → Bool → Type 0
+        Later h l =
+            let s : judge.Stored = judge.bySequence (judge.sequenceOf false openFragments openBytes) piece l linkUp store in
+            let role : Role = goesOn l piece linkUp in
+            Goes (s .result .outcome) (s .result .ends) (s .result .bytes) (s .store) (heldOn role h) (closed role h) (own role h) (replyOn role h)
 
-        bad : isLengthAllowed (a .maximum) bytes ≡ false
-            → transact.fragment bytes first last linkUp a store ≡ transact.stored (transact.badLength a) store
-        bad = by-test (leb 1 (length bytes)) refl
+        none-goes : held ≡ [] → Goes (outcome.Discarded cause.Aborted) noRow (length piece) store [] [] (alone piece (lineOf 2) ∷ []) (answered 2)
+        none-goes e = record {
+          counts-are =
+              counted-counts (outcome.Discarded cause.Aborted) noRow (length piece) a counts [] [] (alone piece (lineOf 2) ∷ []) (adds-none 1 openFragments openBytes) _ _ _ _ _ _ _ _ refl
+              (adds-alone aborted piece) (left-all openFragments ∙ (counts .open-fragments ∙ ap length e)) (left-all openBytes ∙ (counts .open-bytes ∙ ap totalOf e));
+          holds = holds-nothing store (holds .size-is) (holds .room);
+          sent-are = sent-then [] (alone piece (lineOf 2) ∷ []) [] refl refl;
+          reply-is = refl;
+        }
 
-  -- a command ends the packet in flushed, or nothing
-  module _ (a : Account) (l : Ledger) (counts : Counts maximum total a l) (sent-before : before ≡ packetsSent (l .done)) (store : List ℕ) (holds : Holds size store (l .held)) (o : Outcome) (none : packetOf o (store ++ rest) ≡ []) (isTaken : Bool) (answer : getD answerLines (numberOf o) opened ≡ lineOfCommand isTaken) where
-    pub flush-follows : Follows maximum (total + 1) size before rest (transact.with (counting.commanded isTaken (counting.ended (rowOf flushed) a)) o) store (lineOfCommand isTaken) (step (ends flush (lineOfCommand isTaken)) l)
-    flush-follows =
-        same-store a l counts sent-before _ o store _ _ answer none
-        (commanded-counts isTaken _ _ (ended-counts flushed a l counts))
-        (holds-nothing store (holds .size-is) (holds .room))
-        (closing-unsent flushed (l .held) before (l .done) (λ q. omega (arith, q)) sent-before)
+        some-goes : (p : List ℕ) (ps : List (List ℕ)) → held ≡ p ∷ ps → (l : Bool)
+            → (let s : judge.Stored = judge.joined openBytes noRow piece l linkUp store in
+            Goes (s .result .outcome) (s .result .ends) (s .result .bytes) (s .store) (afterLast l ((p ∷ ps) ++ piece ∷ [])) [] (completes l linkUp ((p ∷ ps) ++ piece ∷ [])) (takenReply l linkUp ((p ∷ ps) ++ piece ∷ [])))
+        some-goes p ps e =
+            joined-goes (p ∷ ps) piece openBytes noRow [] (counts .open-bytes ∙ ap totalOf e)
+            (left-all openFragments ∙ (counts .open-fragments ∙ ap length e)) (left-all openBytes ∙ (counts .open-bytes ∙ ap totalOf e))
+            (adds-none 1 openFragments openBytes) refl linkUp store (subst (Holds size store) e holds)
 
-    pub pass-follows : Follows maximum (total + 1) size before rest (transact.with (counting.commanded isTaken a) o) store (lineOfCommand isTaken) (step (passes (lineOfCommand isTaken)) l)
-    pass-follows = same-store a l counts sent-before _ o store _ _ answer none (commanded-counts isTaken a l counts) holds sent-before
+        by-held : (h : List (List ℕ)) → held ≡ h → (l : Bool) → Later h l
+        by-held [] e true = rw (le-ltb 0 openFragments (omega (arith, counts .open-fragments, ap length e))) (none-goes e)
+        by-held [] e false = rw (le-ltb 0 openFragments (omega (arith, counts .open-fragments, ap length e))) (none-goes e)
+        by-held (p ∷ ps) e true = rw (lt-ltb 0 openFragments (omega (arith, counts .open-fragments, ap length e))) (some-goes p ps e true)
+        by-held (p ∷ ps) e false = rw (lt-ltb 0 openFragments (omega (arith, counts .open-fragments, ap length e))) (some-goes p ps e false)
+
+    bad-follows : Stores (judge.stored (judge.badLength openFragments) store) (ends broken 3)
+    unfolding judge.badLength packetsOf if_then_else_
+    bad-follows = record {
+      counts-are =
+          counted-counts (outcome.Discarded cause.BadLength) (judge.endsIn (rowOf broken) openFragments) 0 a counts [] (closing (row broken) held) (alone [] (lineOf 3) ∷ [])
+          (adds-closing broken held openFragments openBytes (counts .open-fragments) (counts .open-bytes)) _ _ _ _ _ _ _ _ refl (adds-alone badlength [])
+          (left-none broken held openFragments openFragments (counts .open-fragments) (λ none. none))
+          (left-none broken held openFragments openBytes (counts .open-fragments) (none-held held openFragments openBytes (counts .open-fragments) (counts .open-bytes)));
+      holds = holds-nothing store (holds .size-is) (holds .room);
+      sent-are = sent-then (closing (row broken) held) (alone [] (lineOf 3) ∷ []) [] (closing-unsent broken held (λ q. omega (arith, q))) refl;
+      reply-is = refl;
+    }
+
+    pub fragment-follows : (setup : Setup) (first : Bool) → Stores (judge.fragment (setup .maximum) openFragments openBytes piece first last linkUp store) (fragmentRole piece last linkUp setup first)
+    unfolding isLengthAllowed judge.fragment judge.sequenceOf judge.bySequence if_then_else_
+    fragment-follows setup first = by-tests (leb 1 (length piece)) (leb (length piece) (setup .maximum)) refl refl
+      where
+        Result : Bool → Bool → Type 0
+        Result some few =
+            Stores (judge.fragment (setup .maximum) openFragments openBytes piece first last linkUp store)
+            (if not (some and few) then ends broken 3 else if first then begins last piece linkUp else goesOn last piece linkUp)
+
+        by-first : (f : Bool) → Stores (judge.bySequence (judge.sequenceOf f openFragments openBytes) piece last linkUp store) (if f then begins last piece linkUp else goesOn last piece linkUp)
+        by-first true = first-follows
+        by-first false = later-follows
+
+        by-tests : (some few : Bool) → leb 1 (length piece) ≡ some → leb (length piece) (setup .maximum) ≡ few → Result some few
+        by-tests false few e f = rw (lt-ltb (length piece) 1 (leb-false 1 (length piece) e)) bad-follows
+        by-tests true false e f =
+            rw (le-ltb (length piece) 1 (leb-true 1 (length piece) e), lt-ltb (setup .maximum) (length piece) (leb-false (length piece) (setup .maximum) f)) bad-follows
+        by-tests true true e f =
+            rw (le-ltb (length piece) 1 (leb-true 1 (length piece) e), le-ltb (setup .maximum) (length piece) (leb-true (length piece) (setup .maximum) f)) (by-first first)
+
+  -- a command ends the packet as flushed, or passes
+  module _ (store : List ℕ) (holds : Holds size store held) (o : Outcome) (answer k q : ℕ) (stands : Alone answer) (reply : replyTo o ≡ answered answer)
+      (tally : (f b : ℕ) → counting.tallyOf o f b 0 ≡ counting.tally noRow 0 0 0 f b k q) (adds : Adds noRow 0 0 0 k q (alone [] (lineOf answer) ∷ [])) where
+    none-sent : packetsOf (replyTo o) (store ++ rest) ≡ []
+    unfolding packetsOf if_then_else_
+    none-sent = ap (λ (r : Reply). packetsOf r (store ++ rest)) reply ∙ by-answer answer stands
+      where
+        by-answer : (n : ℕ) → Alone n → packetsOf (answered n) (store ++ rest) ≡ []
+        by-answer _ of-3 = refl
+        by-answer _ of-7 = refl
+        by-answer _ of-8 = refl
+        by-answer _ of-9 = refl
+        by-answer _ of-10 = refl
+        by-answer _ of-11 = refl
+
+    pub flush-follows : Follows o (judge.endsIn (rowOf flushed) openFragments) 0 store (ends flushed answer)
+    flush-follows = record {
+      counts-are =
+          counted-counts o (judge.endsIn (rowOf flushed) openFragments) 0 a counts [] (closing (row flushed) held) (alone [] (lineOf answer) ∷ [])
+          (adds-closing flushed held openFragments openBytes (counts .open-fragments) (counts .open-bytes)) _ _ _ _ _ _ _ _ (tally _ _) adds
+          (left-none flushed held openFragments openFragments (counts .open-fragments) (λ none. none))
+          (left-none flushed held openFragments openBytes (counts .open-fragments) (none-held held openFragments openBytes (counts .open-fragments) (counts .open-bytes)));
+      holds = holds-nothing store (holds .size-is) (holds .room);
+      sent-are = rw none-sent (sent-then (closing (row flushed) held) (alone [] (lineOf answer) ∷ []) [] (closing-unsent flushed held (λ q. omega (arith, q))) (alone-not-sent answer stands));
+      reply-is = reply;
+    }
+
+    pub pass-follows : Follows o noRow 0 store (passes answer)
+    pass-follows = record {
+      counts-are =
+          counted-counts o noRow 0 a counts held [] (alone [] (lineOf answer) ∷ []) (adds-none 1 openFragments openBytes) _ _ _ _ _ _ _ _ (tally _ _) adds
+          (left-all openFragments ∙ counts .open-fragments) (left-all openBytes ∙ counts .open-bytes);
+      holds = holds;
+      sent-are = rw none-sent (sent-then [] (alone [] (lineOf answer) ∷ []) [] refl (alone-not-sent answer stands));
+      reply-is = reply;
+    }

@@ -16,7 +16,7 @@ use Rattle.prelude.proofs.Lists.{length-put}
 use Rattle.prelude.proofs.Tests.{if-true, if-false, if-cases}
 use Rattle.packet.specs.Store.{maxPacket, minSent, appended, filled, sentLength, shown}
 use Rattle.packet.proofs.Properties.{leaves-the-rest}
-use Rattle.history.specs.Runs.{concatenated, comparedFrom, withFill}
+use Rattle.history.specs.Packets.{concatenated, comparedFrom, withFill}
 use Rattle.history.specs.Calls.{shownBytes}
 
 -- what is compared of an open packet is all of it, as long as it is within the largest

@@ -1,90 +1,117 @@
--- The role that the history reads, command by command.
+-- The role that the history reads, command by command, and its answer.
 -- Assumes nothing.
-use Prim.Native.Nat.{ℕ, _+_}
+use Prim.Native.Nat.{ℕ}
 use mathlib.Core.Bool.{Bool, true, false}
-use mathlib.Core.List.{List, [], _∷_}
-use mathlib.Core.Path.{_≡_, refl, ap, _∙_}
+use mathlib.Core.List.{List, [], _∷_, _++_, reverseAux}
+use mathlib.Core.Path.{_≡_, refl, ap}
 use native.Mathlib.Omega.{arith}
+use lib.Dec.{eqb}
 use lib.ListN.{length}
-use borrow.Author.Tests.{ne-eqb}
-use Rattle.prelude.specs.Choice.{if_then_else_, _and_}
+use borrow.Author.Tests.{eqb-true, eqb-false, ne-eqb}
+use Rattle.prelude.specs.Choice.{if_then_else_}
 use Rattle.prelude.proofs.Tests.{if-cases}
+use Rattle.record.specs.Transaction.{Transaction, transaction}
 use Rattle.translator.specs.Command.{hasBothFlags}
-use Rattle.history.specs.Lines.{aborted, badlength, Line, row, opened, taken, refused, lineNumber, Column, inLine}
-use Rattle.history.specs.Reading.{Entry, transaction, isFragment, isLengthAllowed, isTaken, bringsMac, hasF, hasL, flush, badFragment, Role, fragment, ends, passes, commandLine, roleOf, isMacKept, rolesAfter}
-use Rattle.history.specs.Runs.{Single, ofSingle, singleAt, singlesAfter, countSingles}
-use Rattle.history.proofs.Counts.{in-other-line}
-use Rattle.history.proofs.Ledger.{count-singles-append}
-use Rattle.history.proofs.Counts.{commandLine as lineOfCommand}
+use Rattle.history.specs.Lines.{lineOf, flushed, isCounted}
+use Rattle.history.specs.Packets.{totalOf}
+use Rattle.history.specs.Reading.{Entry, counted, total, Setup, isFragment}
+use Rattle.history.specs.Settings.{enableAnswer, isMacKept}
+use Rattle.history.specs.Runs.{Role, begins, goesOn, ends, passes, commandAnswer, roleOf, rolesBack, soFar, lastAnswer}
+use Rattle.history.specs.Replies.{lastReply, replyOn}
+use Rattle.history.specs.Partition.{lineFrom, lineAt}
+use Rattle.history.proofs.Cutting.{Alone, of-3, of-7, of-8, of-9, of-10, of-11, IsRole, AreRoles}
 
-module _ (maximum : ℕ) (macKept : Bool) (bytes : List ℕ) (linkUp : Bool) where
-  -- the role of a fragment with these flags
-  abbrev pub fragmentRole : (f l : Bool) → Role
-  fragmentRole f l = if isLengthAllowed maximum bytes then fragment f l bytes linkUp else ends badFragment (row badlength)
-
-  pub first-role : roleOf maximum macKept (transaction 0x84 bytes linkUp) ≡ fragmentRole true false
-  unfolding roleOf isFragment if_then_else_
-  first-role = refl
-
-  pub middle-role : roleOf maximum macKept (transaction 0x04 bytes linkUp) ≡ fragmentRole false false
-  unfolding roleOf isFragment if_then_else_
-  middle-role = refl
-
-  pub last-role : roleOf maximum macKept (transaction 0x44 bytes linkUp) ≡ fragmentRole false true
-  unfolding roleOf isFragment if_then_else_
-  last-role = refl
-
-  pub whole-role : roleOf maximum macKept (transaction 0xC4 bytes linkUp) ≡ fragmentRole true true
-  unfolding roleOf isFragment if_then_else_
-  whole-role = refl
-
-  line-of-command : (t : Bool) → (if t then taken else refused) ≡ lineOfCommand t
-  unfolding if_then_else_
-  line-of-command true = refl
-  line-of-command false = refl
-
-  pub enable-role : roleOf maximum macKept (transaction 0xCA bytes linkUp) ≡ ends flush (lineOfCommand (isTaken macKept bytes))
-  unfolding roleOf isFragment commandLine if_then_else_
-  enable-role = ap (λ (line : Line). ends flush line) (line-of-command (isTaken macKept bytes))
-
-  module _ (command : ℕ) (n₁ : command ≡ 0x84 → ⊥) (n₂ : command ≡ 0x04 → ⊥) (n₃ : command ≡ 0x44 → ⊥) (n₄ : command ≡ 0xC4 → ⊥) (n₅ : command ≡ 0xCA → ⊥) where
-    pub unknown-role : roleOf maximum macKept (transaction command bytes linkUp) ≡ (if hasBothFlags command then ends flush refused else passes refused)
-    unfolding roleOf isFragment commandLine hasBothFlags if_then_else_
-    unknown-role = rw (ne-eqb _ _ n₁, ne-eqb _ _ n₂, ne-eqb _ _ n₃, ne-eqb _ _ n₄, ne-eqb _ _ n₅)
-
-  -- no command but Receive Enable brings a MAC
-  pub brings-no-mac : (command : ℕ) → (command ≡ 0xCA → ⊥) → bringsMac (transaction command bytes linkUp) ≡ false
-  unfolding bringsMac if_then_else_
-  brings-no-mac command n = rw (ne-eqb _ _ n)
-
--- what stands by itself is never the open packet
-single-not-open : (earlier : List Role) (maximum : ℕ) (macKept : Bool) (entry : Entry) (c : Column) → countSingles (singleAt earlier (roleOf maximum macKept entry)) opened c ≡ 0
-unfolding roleOf commandLine
-single-not-open earlier maximum macKept (transaction command bytes linkUp) c =
-    if-cases P _ _ _
-    (λ _. if-cases P _ _ _ (λ _. of-fragment (hasF command)) (λ _. of-line (row badlength) (λ q. omega (arith, q))))
-    (λ _. if-cases P _ _ _ (λ _. of-command) (λ _. of-command))
+-- each of the commands, or another
+pub by-command : (P : ℕ → Type 0) → P 0x84 → P 0x04 → P 0x44 → P 0xC4 → P 0xCA
+    → ((c : ℕ) → (c ≡ 0x84 → ⊥) → (c ≡ 0x04 → ⊥) → (c ≡ 0x44 → ⊥) → (c ≡ 0xC4 → ⊥) → (c ≡ 0xCA → ⊥) → P c) → (c : ℕ) → P c
+by-command P p₁ p₂ p₃ p₄ p₅ other c =
+    by-test 0x84 p₁ (λ n₁. by-test 0x04 p₂ (λ n₂. by-test 0x44 p₃ (λ n₃. by-test 0xC4 p₄ (λ n₄. by-test 0xCA p₅ (λ n₅. other c n₁ n₂ n₃ n₄ n₅)))))
   where
-    P : Role → Type 0
-    P role = countSingles (singleAt earlier role) opened c ≡ 0
+    by-equal : (n : ℕ) → P n → ((c ≡ n → ⊥) → P c) → (t : Bool) → eqb c n ≡ t → P c
+    by-equal n p q true e = rw (eqb-true c n e) p
+    by-equal n p q false e = q (eqb-false c n e)
 
-    of-fragment : (f : Bool) → P (fragment f (hasL command) bytes linkUp)
-    of-fragment true = refl
-    of-fragment false =
-        if-cases (λ (ss : List Single). countSingles ss opened c ≡ 0) _ _ _ (λ _. refl)
-        (λ _. omega (arith, in-other-line (row aborted) (ofSingle (length bytes) c) opened (λ q. omega (arith, q))))
+    by-test : (n : ℕ) → P n → ((c ≡ n → ⊥) → P c) → P c
+    by-test n p q = by-equal n p q (eqb c n) refl
 
-    of-line : (line : Line) → (lineNumber line ≡ lineNumber opened → ⊥) → inLine line (ofSingle 0 c) opened + 0 ≡ 0
-    of-line line n = omega (arith, in-other-line line (ofSingle 0 c) opened n)
+-- a command that is none of those
+pub unknown-role : (setup : Setup) (macKept : Bool) (c : ℕ) (bytes : List ℕ) (linkUp : Bool)
+    → (c ≡ 0x84 → ⊥) → (c ≡ 0x04 → ⊥) → (c ≡ 0x44 → ⊥) → (c ≡ 0xC4 → ⊥) → (c ≡ 0xCA → ⊥)
+    → roleOf setup macKept (transaction c bytes linkUp) ≡ (if hasBothFlags c then ends flushed 7 else passes 7)
+unfolding roleOf isFragment commandAnswer hasBothFlags if_then_else_
+unknown-role setup macKept c bytes linkUp n₁ n₂ n₃ n₄ n₅ = rw (ne-eqb _ _ n₁, ne-eqb _ _ n₂, ne-eqb _ _ n₃, ne-eqb _ _ n₄, ne-eqb _ _ n₅)
 
-    of-command : inLine (commandLine macKept command bytes) (ofSingle 0 c) opened + 0 ≡ 0
-    of-command =
-        if-cases (λ (line : Line). inLine line (ofSingle 0 c) opened + 0 ≡ 0) _ _ _ (λ _. of-line taken (λ q. omega (arith, q))) (λ _. of-line refused (λ q. omega (arith, q)))
+-- the answers of what stands alone
+ruleset stands = (of-3, of-7, of-8, of-9, of-10, of-11)
 
-pub singles-not-open : (maximum : ℕ) (later earlier : List Entry) (roles-earlier : List Role) (c : Column)
-    → countSingles (singlesAfter roles-earlier (rolesAfter earlier maximum later)) opened c ≡ 0
-singles-not-open maximum [] earlier roles-earlier c = refl
-singles-not-open maximum (entry ∷ later) earlier roles-earlier c =
-    let role : Role = roleOf maximum (isMacKept earlier) entry in
-    count-singles-append (singleAt roles-earlier role) (singlesAfter (role ∷ roles-earlier) (rolesAfter (entry ∷ earlier) maximum later)) opened c
-    ∙ omega (arith, single-not-open roles-earlier maximum (isMacKept earlier) entry c, singles-not-open maximum later (entry ∷ earlier) (role ∷ roles-earlier) c)
+command-stands : (macKept : Bool) (t : Transaction) → Alone (commandAnswer macKept t)
+unfolding commandAnswer enableAnswer
+command-stands macKept t =
+    if-cases Alone _ _ _
+    (λ _. if-cases Alone _ _ _ (λ _. search stands) (λ _. if-cases Alone _ _ _ (λ _. search stands) (λ _. if-cases Alone _ _ _ (λ _. search stands) (λ _. search stands))))
+    (λ _. search stands)
+
+is-role : (setup : Setup) (macKept : Bool) (t : Transaction) → IsRole (roleOf setup macKept t)
+unfolding roleOf
+is-role setup macKept t =
+    if-cases IsRole _ _ _
+    (λ _. if-cases IsRole _ _ _ (λ _. search stands) (λ _. if-cases IsRole _ _ _ (λ _. search stands) (λ _. search stands)))
+    (λ _. if-cases IsRole _ _ _ (λ _. command-stands macKept t) (λ _. command-stands macKept t))
+
+pub are-roles : (setup : Setup) (earlier : List Entry) → AreRoles (rolesBack setup earlier)
+are-roles setup [] = tt
+are-roles setup (counted t ∷ earlier) = (is-role setup (isMacKept earlier) t, are-roles setup earlier)
+
+pub are-reversed : (list more : List Role) → AreRoles list → AreRoles more → AreRoles (reverseAux list more)
+are-reversed [] more i j = j
+are-reversed (role ∷ list) more i j = are-reversed list (role ∷ more) (i .1) (i .0, j)
+
+pub roles-length : (setup : Setup) (earlier : List Entry) → length (rolesBack setup earlier) ≡ total earlier
+roles-length setup [] = refl
+roles-length setup (counted t ∷ earlier) = omega (arith, roles-length setup earlier)
+
+-- every answer of a role is counted, and the newest place stands in its line
+last-counted : (linkUp : Bool) (size : ℕ) → isCounted (lastAnswer linkUp size) ≡ true
+unfolding lastAnswer isCounted
+last-counted linkUp size =
+    if-cases Is _ _ _ (λ _. refl) (λ _. if-cases Is _ _ _ (λ _. refl) (λ _. if-cases Is _ _ _ (λ _. refl) (λ _. refl)))
+  where
+    Is : ℕ → Type 0
+    Is answer = isCounted answer ≡ true
+
+pub alone-counted : (answer : ℕ) → Alone answer → isCounted answer ≡ true
+unfolding isCounted
+alone-counted _ of-3 = refl
+alone-counted _ of-7 = refl
+alone-counted _ of-8 = refl
+alone-counted _ of-9 = refl
+alone-counted _ of-10 = refl
+alone-counted _ of-11 = refl
+
+reply-counted : (role : Role) (held : List (List ℕ)) → IsRole role → isCounted (replyOn role held .answer) ≡ true
+unfolding lastReply isCounted
+reply-counted (begins true d k) held i = last-counted k (totalOf (d ∷ []))
+reply-counted (begins false d k) held i = refl
+reply-counted (goesOn l d k) [] i = refl
+reply-counted (goesOn true d k) (p ∷ ps) i = last-counted k (totalOf ((p ∷ ps) ++ d ∷ []))
+reply-counted (goesOn false d k) (p ∷ ps) i = refl
+reply-counted (ends fate answer) held i = alone-counted answer i
+reply-counted (passes answer) held i = alone-counted answer i
+
+pub answer-counted : (setup : Setup) (earlier : List Entry) (t : Transaction)
+    → isCounted (replyOn (roleOf setup (isMacKept earlier) t) (soFar (rolesBack setup earlier)) .answer) ≡ true
+answer-counted setup earlier t = reply-counted (roleOf setup (isMacKept earlier) t) (soFar (rolesBack setup earlier)) (is-role setup (isMacKept earlier) t)
+
+newest-line : (role : Role) (held : List (List ℕ)) (earlier : List Role) → soFar earlier ≡ held → lineAt earlier role [] ≡ lineOf (replyOn role held .answer)
+unfolding lastReply
+newest-line (begins true d k) held earlier e = refl
+newest-line (begins false d k) held earlier e = refl
+newest-line (goesOn true d k) [] earlier e = ap (λ (h : List (List ℕ)). lineFrom h (goesOn true d k ∷ [])) e
+newest-line (goesOn false d k) [] earlier e = ap (λ (h : List (List ℕ)). lineFrom h (goesOn false d k ∷ [])) e
+newest-line (goesOn true d k) (p ∷ ps) earlier e = ap (λ (h : List (List ℕ)). lineFrom h (goesOn true d k ∷ [])) e
+newest-line (goesOn false d k) (p ∷ ps) earlier e = ap (λ (h : List (List ℕ)). lineFrom h (goesOn false d k ∷ [])) e
+newest-line (ends fate answer) held earlier e = refl
+newest-line (passes answer) held earlier e = refl
+
+pub line-of-answer : (earlier : List Role) (role : Role) → lineAt earlier role [] ≡ lineOf (replyOn role (soFar earlier) .answer)
+line-of-answer earlier role = newest-line role (soFar earlier) earlier refl

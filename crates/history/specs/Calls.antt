@@ -1,66 +1,81 @@
--- Lists of calls, what they leave, and which transactions they count (demand 3; document 01, A transaction and The account).
+-- Lists of calls, what they leave and reply, and the entries that they add to the list (manual 1.5, 1.6, 2.3).
 use Prim.Native.Nat.{ℕ, min}
 use mathlib.Core.Bool.{Bool}
 use mathlib.Core.List.{List, [], _∷_, _++_}
-use lib.Dec.{leb}
+use lib.Dec.{eqb, leb}
 use lib.ListN.{take, drop}
+use Rattle.prelude.specs.After.{After}
 use Rattle.prelude.specs.Choice.{if_then_else_, _and_}
 use Rattle.packet.specs.Store.{shown}
-use Rattle.state.specs.declared.Account.{Account}
-use Rattle.outcome.specs.declared.Outcome.{Outcome}
-use Rattle.outcome.specs.declared.Outcome.the-variants as outcome
-use Rattle.translator.specs.Transact.{Done, transacted}
-use Rattle.history.specs.Reading.{Entry, transaction}
+use Rattle.record.specs.Transaction.{Transaction}
+use Rattle.state.specs.declared.State.{State}
+use Rattle.outcome.specs.declared.Reply.{Reply}
+use Rattle.outcome.specs.Outcome.{replyTo}
+use Rattle.translator.specs.declared.Transacted.{Transacted}
+use Rattle.translator.specs.Transact.{transacted}
+use Rattle.history.specs.Lines.{isCounted}
+use Rattle.history.specs.Reading.{Entry, counted}
 
--- a transaction that is lent so many bytes of the store and of the settings, or an operation that is handed values, buffers that it only reads, or a buffer for its output that is none of those kept, so that it can change nothing that is kept. Those that make something fresh stand only at the start. A replay of a journal's records is no call of these: it leaves what a transaction for each of them leaves (`EveryReplay` of journal), but shows no packet
+-- a transaction that is lent so many bytes of the store and of the settings, or a call that only reads what is kept: it is handed values, buffers to read, or a buffer for its output that is none of those kept. Other operations do write to what they are lent: those that make something fresh stand only at the start, and `packet::append`, `packet::fill` and `settings::receive_enable` are what transactions are built of, so that a caller who applies one to what is kept has altered it (manual 1.5, 1.6)
 pub data Call : Type 0 where
-  transact : (storeLent settingsLent command : ℕ) (data-bytes : List ℕ) (link-up : Bool) → Call
+  transact : (storeLent settingsLent : ℕ) → Transaction → Call
   reads : Call
 
--- what the caller keeps and hands back unaltered, and the packets sent so far
+-- what the caller keeps and hands back unaltered, and the packets sent so far (manual 1.6)
 pub record Kept : Type 0 where
-  pub account : Account
+  pub state : State
   pub store : List ℕ
   pub settings : List ℕ
   pub sent : List (List ℕ)
 
--- the bytes that `packet::shown` shows
+-- what a transaction comes to (manual 1.5)
+abbrev pub transactedBy : (storeLent settingsLent : ℕ) → Transaction → Kept → After Transacted
+transactedBy storeLent settingsLent t kept = transacted (kept .state) (take storeLent (kept .store)) (take settingsLent (kept .settings)) t
+
+-- what a transaction replies (manual 2.1)
+abbrev pub replyOf : (storeLent settingsLent : ℕ) → Transaction → Kept → Reply
+replyOf storeLent settingsLent t kept = replyTo (transactedBy storeLent settingsLent t kept .result .outcome)
+
+-- the bytes that `packet::shown` shows (manual 4.4)
 abbrev pub shownBytes : List ℕ → ℕ → List ℕ
 shownBytes store size = shown (record { ptr = (0, 0); name = 0; now = store }) size .bytes
 
--- where a packet was sent, the caller sends what is shown of its sent length
-abbrev pub packetOf : Outcome → List ℕ → List (List ℕ)
-packetOf outcome.Taken store = []
-packetOf (outcome.Sent size) store = shownBytes store size ∷ []
-packetOf (outcome.Discarded cause) store = []
-packetOf outcome.Unknown store = []
-packetOf (outcome.Enable enabled) store = []
-packetOf outcome.NoRoom store = []
-packetOf outcome.NotSound store = []
-packetOf outcome.Full store = []
+-- where a packet was sent, the caller sends what is shown of its sent length (manual 4.3, 4.4)
+unfoldable pub packetsOf : Reply → List ℕ → List (List ℕ)
+packetsOf reply store = if eqb (reply .answer) 1 then shownBytes store (reply .sent) ∷ [] else []
 
--- what a transaction leaves, where the rest of the store and of the record was not lent
-abbrev pub leftBy : Kept → (storeRest settingsRest : List ℕ) → Done → Kept
-leftBy kept storeRest settingsRest done =
+-- what a transaction leaves, where the rest of the store and of the settings was not lent (manual 1.5)
+abbrev pub leftBy : Kept → (storeRest settingsRest : List ℕ) → After Transacted → Kept
+leftBy kept storeRest settingsRest left =
     record {
-      account = done .result .account;
-      store = done .store ++ storeRest;
-      settings = done .settings ++ settingsRest;
-      sent = kept .sent ++ packetOf (done .result .outcome) (done .store ++ storeRest);
+      state = left .result .state;
+      store = left .store ++ storeRest;
+      settings = left .settings ++ settingsRest;
+      sent = kept .sent ++ packetsOf (replyTo (left .result .outcome)) (left .store ++ storeRest);
     }
 
--- what a call leaves is what its contract promises: `transact-is-step` and `shown-is-compared` of proofs/Contract.antt say so of the contracts themselves
+-- what a call leaves is what its contract promises (specs/Contract.antt)
 abbrev pub step : Call → Kept → Kept
-step (transact storeLent settingsLent command data-bytes linkUp) kept =
-    leftBy kept (drop storeLent (kept .store)) (drop settingsLent (kept .settings))
-    (transacted (kept .account) (take storeLent (kept .store)) (take settingsLent (kept .settings)) command data-bytes linkUp)
+step (transact storeLent settingsLent t) kept = leftBy kept (drop storeLent (kept .store)) (drop settingsLent (kept .settings)) (transactedBy storeLent settingsLent t kept)
 step reads kept = kept
 
 abbrev pub after : List Call → Kept → Kept
 after [] kept = kept
 after (call ∷ calls) kept = after calls (step call kept)
 
--- "an assembly store of at least 1536 bytes and a settings record of at least 15"
+-- the entries that a transaction adds, by its reply, and a call: one that only reads adds none (manual 8.1)
+abbrev pub entryIf : Transaction → Reply → List Entry
+entryIf t reply = if isCounted (reply .answer) then counted t ∷ [] else []
+
+abbrev pub entriesOf : Call → Kept → List Entry
+entriesOf (transact storeLent settingsLent t) kept = entryIf t (replyOf storeLent settingsLent t kept)
+entriesOf reads kept = []
+
+abbrev pub entriesBy : List Call → Kept → List Entry
+entriesBy [] kept = []
+entriesBy (call ∷ calls) kept = entriesOf call kept ++ entriesBy calls (step call kept)
+
+-- whether a transaction has room, in buffers of these sizes (manual 1.5)
 abbrev pub storeNeeded : ℕ
 storeNeeded = 1536
 
@@ -70,17 +85,13 @@ settingsNeeded = 15
 unfoldable pub hasRoom : (storeSize settingsSize storeLent settingsLent : ℕ) → Bool
 hasRoom storeSize settingsSize storeLent settingsLent = leb storeNeeded (min storeLent storeSize) and leb settingsNeeded (min settingsLent settingsSize)
 
--- the transactions that had room, in buffers of these sizes
+-- the transactions that had room (manual 8.1)
 abbrev pub withRoom : (storeSize settingsSize : ℕ) → List Call → List Entry
 withRoom storeSize settingsSize [] = []
-withRoom storeSize settingsSize (transact storeLent settingsLent command data-bytes linkUp ∷ calls) =
-    if hasRoom storeSize settingsSize storeLent settingsLent then transaction command data-bytes linkUp ∷ withRoom storeSize settingsSize calls else withRoom storeSize settingsSize calls
+withRoom storeSize settingsSize (transact storeLent settingsLent t ∷ calls) =
+    if hasRoom storeSize settingsSize storeLent settingsLent then counted t ∷ withRoom storeSize settingsSize calls else withRoom storeSize settingsSize calls
 withRoom storeSize settingsSize (reads ∷ calls) = withRoom storeSize settingsSize calls
 
--- "Full: T is 4,294,967,295"
+-- the total at which an account is full (manual 8.6)
 abbrev pub mostCounted : ℕ
 mostCounted = 4294967295
-
--- the list of counted transactions
-abbrev pub counted : (storeSize settingsSize : ℕ) → List Call → List Entry
-counted storeSize settingsSize calls = take mostCounted (withRoom storeSize settingsSize calls)

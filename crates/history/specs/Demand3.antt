@@ -1,62 +1,67 @@
--- Demand 3: "Start fresh, hand back state, store and records unaltered, and make any calls but those that make something fresh .. After each one the account, the open packet and all packets sent equal those worked out afresh from the list of counted transactions, by cutting that list into First-to-Last runs without replaying the program."
+-- Demand 3: after any calls from a fresh start, what the caller keeps and what every call replies are worked out from the list alone, and the list from the calls and the sizes of the buffers (manual 8.9).
 use Prim.Native.Nat.{ℕ, _≤_}
-use mathlib.Core.Bool.{Bool, true}
-use mathlib.Core.List.{List, []}
+use mathlib.Core.Bool.{true, not}
+use mathlib.Core.List.{List, [], _∷_, _++_, reverse}
 use mathlib.Core.Path.{_≡_}
-use lib.Dec.{leb}
-use lib.ListN.{length, getD, take}
-use Rattle.prelude.specs.Bits.{isSet}
-use Rattle.prelude.specs.Choice.{if_then_else_, _and_}
-use Rattle.state.specs.Account.{made}
+use lib.Dec.{eqb}
+use lib.ListN.{length, getD, take, drop}
+use Rattle.prelude.specs.Choice.{if_then_else_}
+use Rattle.record.specs.Transaction.{Transaction}
 use Rattle.state.specs.Sound.{sound}
-use Rattle.settings.specs.Record as settings-record
+use Rattle.state.specs.State.{made}
+use Rattle.settings.specs.Layout as settings-layout
 use Rattle.settings.specs.Enable.{freshened}
-use Rattle.outcome.specs.Outcome.{numberOf}
-use Rattle.translator.specs.Transact.{transacted}
-use Rattle.history.specs.Lines.{Fate, sent, cellAt, row, opened, taken, refused, Column, packets, fragments, bytes}
-use Rattle.history.specs.Reading.{Entry, isMacKept, roles}
-use Rattle.history.specs.Runs.{runs, countIn, openPieces, comparedFrom, packetsSent}
-use Rattle.history.specs.Calls.{Call, Kept, after, settingsNeeded, counted}
+use Rattle.outcome.specs.declared.Reply.{Reply}
+use Rattle.history.specs.Lines.{nowhere, lineOf, isCounted}
+use Rattle.history.specs.Packets.{comparedFrom}
+use Rattle.history.specs.Reading.{Entry, counted, total, Setup, setupFor}
+use Rattle.history.specs.Settings.{settingsOf, takenForms}
+use Rattle.history.specs.Runs.{openPieces, itemsOf, accountFor, packetsSent}
+use Rattle.history.specs.Replies.{answered, replyAt}
+use Rattle.history.specs.Partition.{linesOf}
+use Rattle.history.specs.Calls.{Call, Kept, replyOf, after, entriesBy, settingsNeeded, hasRoom, withRoom, mostCounted}
 
--- what the caller keeps is what a list of transactions says, under a maximum (document 01, The account)
-pub record Agrees (maximum : ℕ) (entries : List Entry) (kept : Kept) : Type 0 where
-  pub cells-agree : (fate : Fate) (column : Column) → getD (kept .account .grid) (cellAt fate column) 0 ≡ countIn (roles maximum entries) (row fate) column
-  pub open-fragments-agree : kept .account .«open_fragments» ≡ countIn (roles maximum entries) opened fragments
-  pub open-bytes-agree : kept .account .«open_bytes» ≡ countIn (roles maximum entries) opened bytes
-  -- a command counts as one fragment of its line
-  pub taken-agrees : kept .account .taken ≡ countIn (roles maximum entries) taken fragments
-  pub refused-agrees : kept .account .refused ≡ countIn (roles maximum entries) refused fragments
-  pub total-agrees : kept .account .total ≡ length entries
-  pub maximum-stays : kept .account .maximum ≡ maximum
+-- what the caller keeps is what the list says; `settings` is what lay in the settings buffer at the start (manual 8.9)
+pub record Agrees (setup : Setup) (settings : List ℕ) (entries : List Entry) (kept : Kept) : Type 0 where
+  pub account-agrees : kept .state .account ≡ accountFor setup entries
+  pub maximum-stays : kept .state .maximum ≡ setup .maximum
+  -- all bytes of the settings, and those past them as they were
+  pub settings-agree : kept .settings ≡ settingsOf (takenForms (reverse entries)) ++ drop settingsNeeded settings
   -- the open packet lies at the start of the store
-  pub open-packet-agrees : (let open-packet : List ℕ = comparedFrom 0 (openPieces (runs (roles maximum entries))) in take (length open-packet) (kept .store) ≡ open-packet)
-  pub sent-agree : kept .sent ≡ packetsSent (runs (roles maximum entries))
+  pub open-packet-agrees : (let open-packet : List ℕ = comparedFrom 0 (openPieces setup entries) in take (length open-packet) (kept .store) ≡ open-packet)
+  pub sent-agree : kept .sent ≡ packetsSent (itemsOf setup entries)
   -- no packet is counted as sent that was not sent, nor sent and not counted
-  pub sent-are-counted : getD (kept .account .grid) (cellAt sent packets) 0 ≡ length (kept .sent)
-  pub mac-kept-agrees : isSet 0 (getD (kept .settings) settings-record.keptAt 0) ≡ isMacKept entries
-  pub account-is-sound : sound (kept .account) ≡ true
-  pub settings-are-sound : settings-record.sound (kept .settings) ≡ true
+  pub sent-are-counted : getD (kept .state .account .grid) 0 0 ≡ length (kept .sent)
+  pub state-is-sound : sound (kept .state) ≡ true
+  pub settings-are-sound : settings-layout.sound (kept .settings) ≡ true
 
--- 16 "fragment maximum not 1 to 240": "fresh state for 240 comes back"
-abbrev pub largestMaximum : ℕ
-largestMaximum = 240
+-- 12 without room, 14 when full, and else by the list (manual 2.2)
+unfoldable pub replyAfter : Setup → (storeSize settingsSize : ℕ) → List Entry → (storeLent settingsLent : ℕ) → Transaction → Reply
+replyAfter setup storeSize settingsSize entries storeLent settingsLent t =
+    if not (hasRoom storeSize settingsSize storeLent settingsLent) then answered 12 else
+    if eqb (total entries) mostCounted then answered 14 else
+    replyAt setup (reverse entries) t
 
-unfoldable pub maximumFor : ℕ → ℕ
-maximumFor asked = if leb 1 asked and leb asked largestMaximum then asked else largestMaximum
+-- of one more transaction: its reply, and the line in which it stands then, if it is counted (manual 2.2, 8.3)
+pub record Replies (setup : Setup) (storeSize settingsSize : ℕ) (entries : List Entry) (kept : Kept) (storeLent settingsLent : ℕ) (t : Transaction) : Type 0 where
+  pub reply-is : replyOf storeLent settingsLent t kept ≡ replyAfter setup storeSize settingsSize entries storeLent settingsLent t
+  pub never-unsound : replyOf storeLent settingsLent t kept .answer ≡ 13 → ⊥
+  pub in-its-line :
+      isCounted (replyOf storeLent settingsLent t kept .answer) ≡ true
+      → getD (linesOf setup (entries ++ counted t ∷ [])) (total entries) nowhere ≡ lineOf (replyOf storeLent settingsLent t kept .answer)
 
--- a fresh account, a fresh record, any store, and nothing sent
+-- a fresh state, fresh settings, any store, and nothing sent (manual 1.2, 5.4)
 abbrev pub fresh : (maximum : ℕ) (store settings : List ℕ) → Kept
-fresh maximum store settings = record { account = made maximum .account; store = store; settings = freshened settings .settings; sent = [] }
+fresh maximum store settings = record { state = made maximum .state; store = store; settings = freshened settings .settings; sent = [] }
 
--- a settings buffer of fewer bytes is refused by the call that writes a fresh record, so nothing starts
+-- a settings buffer of fewer bytes is rejected by the call that writes fresh settings, so nothing starts (manual 5.4)
+pub record Demand3For (maximum : ℕ) (store settings : List ℕ) (calls : List Call) : Type 0 where
+  pub agrees : Agrees (setupFor maximum) settings (entriesBy calls (fresh maximum store settings)) (after calls (fresh maximum store settings))
+  -- the list, from the calls and the sizes of the buffers alone
+  pub list-is : entriesBy calls (fresh maximum store settings) ≡ take mostCounted (withRoom (length store) (length settings) calls)
+  pub replies :
+      (storeLent settingsLent : ℕ) (t : Transaction)
+      → Replies (setupFor maximum) (length store) (length settings) (entriesBy calls (fresh maximum store settings)) (after calls (fresh maximum store settings)) storeLent settingsLent t
+
 abbrev pub Demand3 : Type 0
-Demand3 =
-    (maximum : ℕ) (store settings : List ℕ) → settingsNeeded ≤ length settings → (calls : List Call)
-    → Agrees (maximumFor maximum) (counted (length store) (length settings) calls) (after calls (fresh maximum store settings))
-
--- 13 "state or settings record not sound" is never answered to such calls
-abbrev pub NeverUnsound : Type 0
-NeverUnsound =
-    (maximum : ℕ) (store settings : List ℕ) → settingsNeeded ≤ length settings → (calls : List Call) (storeLent settingsLent command : ℕ) (data-bytes : List ℕ) (linkUp : Bool)
-    → (let kept : Kept = after calls (fresh maximum store settings) in
-    numberOf (transacted (kept .account) (take storeLent (kept .store)) (take settingsLent (kept .settings)) command data-bytes linkUp .result .outcome) ≡ 13 → ⊥)
+Demand3 = (maximum : ℕ) (store settings : List ℕ) → settingsNeeded ≤ length settings → (calls : List Call) → Demand3For maximum store settings calls

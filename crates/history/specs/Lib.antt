@@ -1,8 +1,12 @@
-pub mod Answers
 pub mod Calls
+pub mod Contract
 pub mod Demand3
 pub mod Example
 pub mod Lines
+pub mod LinesStay
+pub mod Packets
 pub mod Partition
 pub mod Reading
+pub mod Replies
 pub mod Runs
+pub mod Settings

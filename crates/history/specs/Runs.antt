@@ -1,144 +1,138 @@
--- The list cut into First-to-Last runs, and the account that follows (document 01, The account, "How the list is cut"; Answer numbers for a run that reached its Last; First and Last for the fill). A run is found by looking forward from its First, and what stands alone by looking back: no state is carried, only the part of the list that was passed.
-use Prim.Native.Nat.{ℕ, _+_, _-_}
+-- The list cut into First-to-Last runs and what stands alone, and the account that follows (manual 3, 8.9). A run is found by looking forward from the fragment that begins it, and the fragments so far at a place by looking back: no state is carried.
+use Prim.Native.Nat.{ℕ, _+_}
 use mathlib.Core.Bool.{Bool, true, false, not}
-use mathlib.Core.List.{List, [], _∷_, _++_}
+use mathlib.Core.List.{List, [], _∷_, _++_, reverse}
 use lib.Dec.{ltb}
-use lib.ListN.{length, replicate}
-use Rattle.prelude.specs.Choice.{if_then_else_}
-use Rattle.history.specs.Lines.{Fate, sent, superseded, over, short, linkdown, aborted, Line, row, opened, Column, packets, fragments, bytes, isLine, inLine}
-use Rattle.history.specs.Reading.{Role, fragment, ends, passes, fateOf}
+use lib.ListN.{length}
+use Rattle.prelude.specs.Choice.{if_then_else_, _and_}
+use Rattle.record.specs.Transaction.{Transaction}
+use Rattle.state.specs.declared.Account.{Account}
+use Rattle.state.specs.Account.{besides, accountOf}
+use Rattle.history.specs.Lines.{Fate, superseded, flushed, broken, sent, fates, Line, row, opened, taken, refused, isLine, inLine, lineOf, Column, packets, fragments, bytes, gridOf}
+use Rattle.history.specs.Packets.{concatenated, totalOf, largestTotal, smallestTotal, withFill}
+use Rattle.history.specs.Reading.{Entry, counted, total, Setup, hasF, hasL, isFragment, isLengthAllowed, isReceiveEnable}
+use Rattle.history.specs.Settings.{enableAnswer, isMacKept}
 
--- the bytes of fragments one after the other
-abbrev pub concatenated : List (List ℕ) → List ℕ
-concatenated [] = []
-concatenated (piece ∷ pieces) = piece ++ concatenated pieces
+-- what a transaction is to the runs: an allowed fragment that begins one or goes on with one, Last or not; or, with its answer, one that ends the run it meets or one that a run passes over (manual 8.9)
+pub data Role : Type 0 where
+  begins goesOn : (last : Bool) (piece : List ℕ) (linkUp : Bool) → Role
+  ends : Fate → (answer : ℕ) → Role
+  passes : (answer : ℕ) → Role
 
--- how a run ends, if it does
-pub data End : Type 0 where
-  ended : Fate → End
-  unended : End
+-- 7, or as Receive Enable is answered (manual 2.1)
+unfoldable pub commandAnswer : (macKept : Bool) → Transaction → ℕ
+commandAnswer macKept t = if isReceiveEnable (t .command) then enableAnswer macKept (t .bytes) else 7
 
-pub record Run : Type 0 where
+-- a fragment of a bad length breaks, a command with F and L flushes, any other passes (manual 3.4, 3.5)
+unfoldable pub roleOf : Setup → (macKept : Bool) → Transaction → Role
+roleOf setup macKept t =
+    if isFragment (t .command) then
+    (if not (isLengthAllowed setup (t .bytes)) then ends broken 3 else
+    if hasF (t .command) then begins (hasL (t .command)) (t .bytes) (t .linkUp) else
+    goesOn (hasL (t .command)) (t .bytes) (t .linkUp))
+    else if hasF (t .command) and hasL (t .command) then ends flushed (commandAnswer macKept t)
+    else passes (commandAnswer macKept t)
+
+-- the roles of entries newest first, and of the list (manual 8.9)
+abbrev pub rolesBack : Setup → (earlier : List Entry) → List Role
+rolesBack setup [] = []
+rolesBack setup (counted t ∷ earlier) = roleOf setup (isMacKept earlier) t ∷ rolesBack setup earlier
+
+abbrev pub roles : Setup → List Entry → List Role
+roles setup entries = reverse (rolesBack setup (reverse entries))
+
+-- looking back, newest first: the fragments so far of the run that goes on (manual 3.1, 8.9)
+abbrev pub grown : List (List ℕ) → List ℕ → List (List ℕ)
+grown [] piece = []
+grown (first ∷ pieces) piece = (first ∷ pieces) ++ piece ∷ []
+
+abbrev pub soFar : (earlier : List Role) → List (List ℕ)
+soFar [] = []
+soFar (begins true piece linkUp ∷ earlier) = []
+soFar (begins false piece linkUp ∷ earlier) = piece ∷ []
+soFar (goesOn true piece linkUp ∷ earlier) = []
+soFar (goesOn false piece linkUp ∷ earlier) = grown (soFar earlier) piece
+soFar (ends fate answer ∷ earlier) = []
+soFar (passes answer ∷ earlier) = soFar earlier
+
+-- the fragments of the open packet (manual 3.1)
+abbrev pub openPieces : Setup → List Entry → List (List ℕ)
+openPieces setup entries = soFar (rolesBack setup (reverse entries))
+
+-- what the list is cut into: a run, which is one packet, or what stands alone, which is none (manual 8.9)
+pub record Item : Type 0 where
+  pub packetCount : ℕ
   pub pieces : List (List ℕ)
-  pub end : End
-
-abbrev pub run : List (List ℕ) → End → Run
-run pieces end = record { pieces = pieces; end = end }
-
--- 4 "total above 1536", 5 "total below 17"
-abbrev pub largestTotal : ℕ
-largestTotal = 1536
-
-abbrev pub smallestTotal : ℕ
-smallestTotal = 17
-
--- of a run that reached its Last: 4, 5, 6 "link down", else sent
-unfoldable pub atLast : (linkUp : Bool) → List (List ℕ) → Fate
-atLast linkUp pieces =
-    if ltb largestTotal (length (concatenated pieces)) then over else
-    if ltb (length (concatenated pieces)) smallestTotal then short else
-    if linkUp then sent else linkdown
-
--- the run that has these fragments, by what follows them: "The run takes in the allowed fragments up to its Last and passes over commands that end nothing. An earlier First ends it as superseded, a flush as flushed, a fragment answered 3 as broken."
-abbrev pub runFrom : List (List ℕ) → List Role → Run
-runFrom pieces [] = run pieces unended
-runFrom pieces (fragment true l piece linkUp ∷ later) = run pieces (ended superseded)
-runFrom pieces (fragment false true piece linkUp ∷ later) = run (pieces ++ piece ∷ []) (ended (atLast linkUp (pieces ++ piece ∷ [])))
-runFrom pieces (fragment false false piece linkUp ∷ later) = runFrom (pieces ++ piece ∷ []) later
-runFrom pieces (ends ending line ∷ later) = run pieces (ended (fateOf ending))
-runFrom pieces (passes line ∷ later) = runFrom pieces later
-
--- "a fragment with F and an allowed length begins a run"; its own F does not end it
-abbrev pub runAt : Role → List Role → List Run
-runAt (fragment true l piece linkUp) later = runFrom [] (fragment false l piece linkUp ∷ later) ∷ []
-runAt (fragment false l piece linkUp) later = []
-runAt (ends ending line) later = []
-runAt (passes line) later = []
-
-abbrev pub runs : List Role → List Run
-runs [] = []
-runs (role ∷ later) = runAt role later ++ runs later
-
--- looking back from a place, newest first: whether a First comes before anything that ends its run
-abbrev pub isInRun : (earlier : List Role) → Bool
-isInRun [] = false
-isInRun (fragment true l piece linkUp ∷ earlier) = not l
-isInRun (fragment false true piece linkUp ∷ earlier) = false
-isInRun (fragment false false piece linkUp ∷ earlier) = isInRun earlier
-isInRun (ends ending line ∷ earlier) = false
-isInRun (passes line ∷ earlier) = isInRun earlier
-
--- what stands in a line by itself, with its bytes: "An allowed fragment in no run is aborted", "badlength has no bytes", and every command
-pub record Single : Type 0 where
   pub line : Line
-  pub size : ℕ
 
-abbrev pub single : Line → ℕ → Single
-single line size = record { line = line; size = size }
+abbrev pub run : List (List ℕ) → Line → Item
+run pieces line = record { packetCount = 1; pieces = pieces; line = line }
 
-abbrev pub singleAt : (earlier : List Role) → Role → List Single
-singleAt earlier (fragment true l piece linkUp) = []
-singleAt earlier (fragment false l piece linkUp) = if isInRun earlier then [] else (single (row aborted) (length piece) ∷ [])
-singleAt earlier (ends ending line) = single line 0 ∷ []
-singleAt earlier (passes line) = single line 0 ∷ []
+abbrev pub alone : List ℕ → Line → Item
+alone piece line = record { packetCount = 0; pieces = piece ∷ []; line = line }
 
-abbrev pub singlesAfter : (earlier : List Role) → List Role → List Single
-singlesAfter earlier [] = []
-singlesAfter earlier (role ∷ later) = singleAt earlier role ++ singlesAfter (role ∷ earlier) later
+-- of a run that reached its Last: 4, 5, 6, else sent (manual 3.6)
+unfoldable pub lastAnswer : (linkUp : Bool) (total : ℕ) → ℕ
+lastAnswer linkUp total =
+    if ltb largestTotal total then 4 else
+    if ltb total smallestTotal then 5 else
+    if linkUp then 1 else 6
 
--- the line of a run
-abbrev pub lineOf : End → Line
-lineOf (ended fate) = row fate
-lineOf unended = opened
+abbrev pub completed : (linkUp : Bool) → List (List ℕ) → Item
+completed linkUp pieces = run pieces (lineOf (lastAnswer linkUp (totalOf pieces)))
 
--- a run is one packet with its fragments and bytes; what stands by itself is one fragment, or one command
-unfoldable pub ofRun : List (List ℕ) → Column → ℕ
-ofRun pieces packets = 1
-ofRun pieces fragments = length pieces
-ofRun pieces bytes = length (concatenated pieces)
+-- the run that has these fragments, by what follows them (manual 8.9)
+abbrev pub runFrom : List (List ℕ) → (later : List Role) → Item
+runFrom pieces [] = run pieces opened
+runFrom pieces (begins last piece linkUp ∷ later) = run pieces (row superseded)
+runFrom pieces (goesOn true piece linkUp ∷ later) = completed linkUp (pieces ++ piece ∷ [])
+runFrom pieces (goesOn false piece linkUp ∷ later) = runFrom (pieces ++ piece ∷ []) later
+runFrom pieces (ends fate answer ∷ later) = run pieces (row fate)
+runFrom pieces (passes answer ∷ later) = runFrom pieces later
 
-unfoldable pub ofSingle : ℕ → Column → ℕ
-ofSingle size packets = 0
-ofSingle size fragments = 1
-ofSingle size bytes = size
+-- the run that begins at a place (manual 8.9)
+abbrev pub begun : (last : Bool) (piece : List ℕ) (linkUp : Bool) (later : List Role) → Item
+begun true piece linkUp later = completed linkUp (piece ∷ [])
+begun false piece linkUp later = runFrom (piece ∷ []) later
 
-abbrev pub countRuns : List Run → Line → Column → ℕ
-countRuns [] line column = 0
-countRuns (r ∷ rs) line column = inLine (lineOf (r .end)) (ofRun (r .pieces) column) line + countRuns rs line column
+-- what begins at a place, or stands alone there: a fragment that no run takes in is answered 2 and counted with its bytes; nothing else that stands alone is counted with bytes (manual 8.3)
+abbrev pub abortedIf : List (List ℕ) → (piece : List ℕ) → List Item
+abortedIf [] piece = alone piece (lineOf 2) ∷ []
+abortedIf (first ∷ pieces) piece = []
 
-abbrev pub countSingles : List Single → Line → Column → ℕ
-countSingles [] line column = 0
-countSingles (s ∷ ss) line column = inLine (s .line) (ofSingle (s .size) column) line + countSingles ss line column
+abbrev pub itemAt : (earlier : List Role) → Role → (later : List Role) → List Item
+itemAt earlier (begins last piece linkUp) later = begun last piece linkUp later ∷ []
+itemAt earlier (goesOn last piece linkUp) later = abortedIf (soFar earlier) piece
+itemAt earlier (ends fate answer) later = alone [] (lineOf answer) ∷ []
+itemAt earlier (passes answer) later = alone [] (lineOf answer) ∷ []
 
--- the account that the list makes: what a line has in a column
-abbrev pub countIn : List Role → Line → Column → ℕ
-countIn list line column = countRuns (runs list) line column + countSingles (singlesAfter [] list) line column
+abbrev pub items : (earlier later : List Role) → List Item
+items earlier [] = []
+items earlier (role ∷ later) = itemAt earlier role later ++ items (role ∷ earlier) later
 
--- the fragments of the run that has not ended
-abbrev pub unendedPieces : End → List (List ℕ) → List (List ℕ)
-unendedPieces (ended fate) pieces = []
-unendedPieces unended pieces = pieces
+-- what a line has in a column (manual 8.2)
+unfoldable pub amount : Item → Column → ℕ
+amount item packets = item .packetCount
+amount item fragments = length (item .pieces)
+amount item bytes = totalOf (item .pieces)
 
-abbrev pub openPieces : List Run → List (List ℕ)
-openPieces [] = []
-openPieces (r ∷ rs) = unendedPieces (r .end) (r .pieces) ++ openPieces rs
+abbrev pub countIn : List Item → Line → Column → ℕ
+countIn [] line column = 0
+countIn (item ∷ rest) line column = inLine (item .line) (amount item column) line + countIn rest line column
 
--- "Of an open packet whose total is past 1536, only .. the bytes before the first fragment that went past are compared": those of the fragments behind `before` bytes
-abbrev pub comparedFrom : (before : ℕ) → List (List ℕ) → List ℕ
-comparedFrom before [] = []
-comparedFrom before (piece ∷ pieces) = if ltb largestTotal (before + length piece) then [] else (piece ++ comparedFrom (before + length piece) pieces)
+-- the account that the list makes (manual 8.2, 8.5)
+abbrev pub itemsOf : Setup → List Entry → List Item
+itemsOf setup entries = items [] (roles setup entries)
 
--- "a packet below 64 bytes is filled up with zeros to 64"
-abbrev pub filledTo : ℕ
-filledTo = 64
+abbrev pub accountFor : Setup → List Entry → Account
+accountFor setup entries =
+    let count : Line → Column → ℕ = countIn (itemsOf setup entries) in
+    accountOf (gridOf count fates) (besides (count opened fragments) (count opened bytes) (count taken fragments) (count refused fragments) (total entries))
 
-abbrev pub withFill : List ℕ → List ℕ
-withFill packet = packet ++ replicate (filledTo - length packet) 0
+-- the packet that an item sends, with its fill, and all packets sent, in order (manual 4.3)
+abbrev pub sentBy : Item → List (List ℕ)
+sentBy item = if isLine (item .line) (row sent) then withFill (concatenated (item .pieces)) ∷ [] else []
 
--- all packets sent, in order
-unfoldable pub ifSent : End → List (List ℕ) → List (List ℕ)
-ifSent end pieces = if isLine (lineOf end) (row sent) then withFill (concatenated pieces) ∷ [] else []
-
-abbrev pub packetsSent : List Run → List (List ℕ)
+abbrev pub packetsSent : List Item → List (List ℕ)
 packetsSent [] = []
-packetsSent (r ∷ rs) = ifSent (r .end) (r .pieces) ++ packetsSent rs
+packetsSent (item ∷ rest) = sentBy item ++ packetsSent rest

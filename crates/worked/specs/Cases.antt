@@ -1,22 +1,29 @@
--- The worked examples W1 to W13, as one table under a single statement (document 01, Both sides of each edge): "maximum 240, link up, fresh, unless said".
+-- What a worked example asks, and when it holds (manual 10).
 use Prim.Native.Nat.{ℕ, zero, suc, _+_, _%_}
 use mathlib.Core.Bool.{Bool, true, false}
 use mathlib.Core.List.{List, [], _∷_, _++_}
 use mathlib.Core.Path.{_≡_}
 use lib.Dec.{eqb}
 use lib.ListN.{length, take, replicate}
+use Rattle.prelude.specs.After.{After}
 use Rattle.prelude.specs.Choice.{if_then_else_}
 use Rattle.setlink.specs.declared.Decision.{Decision}
 use Rattle.setlink.specs.declared.Media.{Media}
-use Rattle.setlink.specs.declared.Media.the-variants.{Copper, Fibre}
 use Rattle.setlink.specs.Decide.{decided, freshWord}
 use Rattle.status.specs.declared.Fields.{Fields}
-use Rattle.status.specs.Block.{written}
+use Rattle.status.specs.Block.{written, parsed}
 use Rattle.settings.specs.Enable.{freshened}
-use Rattle.state.specs.declared.Account.{Account}
-use Rattle.state.specs.Account.{sent, superseded, flushed, broken, over, short, linkdown, aborted, badlength, made}
+use Rattle.address.specs.declared.Address.the-variants.{Mac, Ipv4}
+use Rattle.address.specs.Address.{inForce}
+use Rattle.record.specs.Records.{recordsOf, recordsIn}
+use Rattle.record.specs.Transaction.{Transaction, transaction}
+use Rattle.state.specs.declared.State.{State}
+use Rattle.state.specs.Account.{sent, superseded, flushed, broken, over, short, linkdown, aborted, badlength, besides, accountOf}
+use Rattle.state.specs.Sound.{accountSound}
+use Rattle.state.specs.State.{withAccount, made}
 use Rattle.outcome.specs.Outcome.{numberOf, sentLengthOf}
-use Rattle.translator.specs.Transact.{Done, transacted}
+use Rattle.translator.specs.declared.Transacted.{Transacted}
+use Rattle.translator.specs.Transact.{transacted}
 
 -- a command with so many bytes of data, while the link is up or down
 pub record Sends : Type 0 where
@@ -35,28 +42,43 @@ abbrev pub pattern : ℕ → ℕ → List ℕ
 pattern from zero = []
 pattern from (suc n) = (from % 251 + 1) ∷ pattern (suc from) n
 
--- an answer number, with the sent length or 0
+abbrev pub patterned : ℕ → List Sends → List Transaction
+patterned from [] = []
+patterned from (s ∷ rest) = transaction (s .command) (pattern from (s .size)) (s .linkUp) ∷ patterned (from + s .size) rest
+
+-- Receive Enables with these data bytes (manual 5.2)
+abbrev pub enables : List (List ℕ) → List Transaction
+enables [] = []
+enables (form ∷ rest) = transaction 0xCA form true ∷ enables rest
+
+-- an answer number, with the sent length or 0 (manual 2.1)
 abbrev pub Answer : Type 0
 Answer = ℕ × ℕ
 
--- what transactions one after another are answered, and the account and the store after the last
+-- what transactions one after another are answered, and what they leave
 pub record Run : Type 0 where
   pub answers : List Answer
-  pub account : Account
+  pub state : State
   pub store : List ℕ
+  pub settings : List ℕ
 
-unfoldable pub runFrom : ℕ → Account → List ℕ → List ℕ → List Sends → Run
-runFrom from account store settings [] = record { answers = []; account = account; store = store }
-runFrom from account store settings (s ∷ rest) =
-    let d : Done = transacted account store settings (s .command) (pattern from (s .size)) (s .linkUp) in
-    let r : Run = runFrom (from + s .size) (d .result .account) (d .store) (d .settings) rest in
-    record { answers = (numberOf (d .result .outcome), sentLengthOf (d .result .outcome)) ∷ r .answers; account = r .account; store = r .store }
+unfoldable pub runOn : State → List ℕ → List ℕ → List Transaction → Run
+runOn state store settings [] = record { answers = []; state = state; store = store; settings = settings }
+runOn state store settings (t ∷ rest) =
+    let left : After Transacted = transacted state store settings t in
+    let r : Run = runOn (left .result .state) (left .store) (left .settings) rest in
+    record {
+      answers = (numberOf (left .result .outcome), sentLengthOf (left .result .outcome)) ∷ r .answers;
+      state = r .state;
+      store = r .store;
+      settings = r .settings;
+    }
 
--- the store is full of ones, so that a fill shows
-abbrev pub run : List Sends → Run
-run = runFrom 0 (made 240 .account) (replicate 1536 0xFF) (freshened (replicate 15 0) .settings)
+-- maximum 240, all fresh; the store is full of ones, so that a fill shows
+abbrev pub run : List Transaction → Run
+run = runOn (made 240 .state) (replicate 1536 0xFF) (freshened (replicate 15 0xFF) .settings)
 
--- a row that has counted
+-- a row that has counted (manual 8.2)
 pub record Line : Type 0 where
   pub row : ℕ
   pub cells : List ℕ
@@ -68,83 +90,76 @@ unfoldable pub cellsIn : List Line → ℕ → List ℕ
 cellsIn [] row = 0 ∷ 0 ∷ 0 ∷ []
 cellsIn (l ∷ rest) row = if eqb row (l .row) then l .cells else cellsIn rest row
 
--- the account for 240 in which only these rows have counted, and commands that were refused; no packet is open
-abbrev pub counting : List Line → ℕ → ℕ → Account
-counting lines refusals total =
+-- the state for a maximum in which only these rows have counted, and commands that were taken or refused; no packet is open (manual 8.5, 8.8)
+abbrev pub counting : (maximum : ℕ) → List Line → (taken refusals total : ℕ) → State
+counting maximum lines taken refusals total =
     record {
-      maximum = 240;
-      grid =
-          cellsIn lines sent ++ cellsIn lines superseded ++ cellsIn lines flushed ++ cellsIn lines broken ++ cellsIn lines over
-          ++ cellsIn lines short ++ cellsIn lines linkdown ++ cellsIn lines aborted ++ cellsIn lines badlength;
-      «open_fragments» = 0;
-      «open_bytes» = 0;
-      taken = 0;
-      refused = refusals;
-      total = total;
+      account =
+          accountOf
+          (cellsIn lines sent ++ cellsIn lines superseded ++ cellsIn lines flushed ++ cellsIn lines broken ++ cellsIn lines over
+          ++ cellsIn lines short ++ cellsIn lines linkdown ++ cellsIn lines aborted ++ cellsIn lines badlength)
+          (besides 0 0 taken refusals total);
+      maximum = maximum;
     }
 
--- Set Link where 0 is in force and no host driver is present
-abbrev pub setLink : ℕ → Media → Decision
-setLink word media = decided freshWord word false media
+-- a state that has a packet open besides (manual 8.5)
+abbrev pub withOpen : (fragments bytes : ℕ) → State → State
+withOpen fragments bytes s =
+    withAccount s (accountOf (s .account .grid) (besides fragments bytes (s .account .beside .taken) (s .account .beside .refused) (s .account .beside .total)))
 
+-- a decision of Set Link where 0 was in force (manual 7.3)
 abbrev pub accepted : ℕ → Decision
 accepted word = record { response = 0x0000; reason = 0x0000; «in_force» = word }
 
 abbrev pub refused : ℕ → Decision
 refused reason = record { response = 0x0001; reason = reason; «in_force» = 0 }
 
--- what is asked, and what must be answered; with the account that must be left, or the packet that must be sent
+-- what is asked, and what must be answered and left
 pub data Case : Type 0 where
   answered : List Sends → List Answer → Case
-  counted : List Sends → List Answer → Account → Case
-  shown : List Sends → List Answer → List ℕ → Case
-  link : ℕ → Media → Decision → Case
-  status : Fields → List ℕ → Case
+  counted : List Sends → List Answer → State → Case
+  shown : List Sends → List Answer → (packet : List ℕ) → Case
+  -- Receive Enables, and the settings that they leave
+  enabled : (forms : List (List ℕ)) → List Answer → (settings : List ℕ) → Case
+  -- a fragment of 20 bytes, to a state with a store and settings of these: the answer, and nothing changes
+  rejected : State → (storeSize : ℕ) → (settings : List ℕ) → (answer : ℕ) → Case
+  -- transactions to a state and settings of these: the answers, and the state that they leave
+  resumed : State → (settings : List ℕ) → List Sends → List Answer → State → Case
+  -- whether the account of a state is sound, whatever the maximum
+  accountIs : (sound : Bool) → State → Case
+  -- a state made for a maximum: the answer, and the maximum that it has
+  maximum : (asked answer made : ℕ) → Case
+  -- the addresses in force, of settings and a Flash block
+  addresses : (settings flash mac ipv4 : List ℕ) → Case
+  link : (word : ℕ) → (hostPresent : Bool) → Media → Decision → Case
+  -- fields written, with the answer and the block; and a block read, with the answer and whether it gives these fields
+  writes : Fields → (answer : ℕ) → (block : List ℕ) → Case
+  reads : (block : List ℕ) → (answer : ℕ) → Fields → Case
+  -- the records of a journal, written and read
+  journal : List Transaction → (bytes : List ℕ) → Case
 
 abbrev pub Holds : Case → Type 0
-Holds (answered asked expected) = run asked .answers ≡ expected
-Holds (counted asked expected account) = (run asked .answers ≡ expected) × (run asked .account ≡ account)
-Holds (shown asked expected packet) = (run asked .answers ≡ expected) × (take (length packet) (run asked .store) ≡ packet)
-Holds (link word media expected) = setLink word media ≡ expected
-Holds (status fields expected) = written fields ≡ record { answer = 0; block = expected }
+Holds (answered asked expected) = run (patterned 0 asked) .answers ≡ expected
+Holds (counted asked expected state) = (run (patterned 0 asked) .answers ≡ expected) × (run (patterned 0 asked) .state ≡ state)
+Holds (shown asked expected packet) = (run (patterned 0 asked) .answers ≡ expected) × (take (length packet) (run (patterned 0 asked) .store) ≡ packet)
+Holds (enabled forms expected settings) = (run (enables forms) .answers ≡ expected) × (run (enables forms) .settings ≡ settings)
+Holds (rejected state storeSize settings answer) =
+    runOn state (replicate storeSize 0) settings (patterned 0 (up 0x84 20 ∷ []))
+    ≡ record { answers = (answer, 0) ∷ []; state = state; store = replicate storeSize 0; settings = settings }
+Holds (resumed state settings asked expected left) =
+    (runOn state (replicate 1536 0xFF) settings (patterned 0 asked) .answers ≡ expected)
+    × (runOn state (replicate 1536 0xFF) settings (patterned 0 asked) .state ≡ left)
+Holds (accountIs sound state) = accountSound (state .account) ≡ sound
+Holds (maximum asked answer is) = (made asked .answer ≡ answer) × (made asked .state ≡ counting is [] 0 0 0)
+Holds (addresses settings flash mac ipv4) =
+    (inForce Mac (record { ptr = (0, 0); name = 0; now = settings }) (record { ptr = (1, 0); name = 1; now = flash }) .bytes ≡ mac)
+    × (inForce Ipv4 (record { ptr = (0, 0); name = 0; now = settings }) (record { ptr = (1, 0); name = 1; now = flash }) .bytes ≡ ipv4)
+Holds (link word hostPresent media expected) = decided freshWord word hostPresent media ≡ expected
+Holds (writes fields answer block) = written fields ≡ record { answer = answer; block = block }
+Holds (reads block answer fields) = parsed block ≡ record { answer = answer; fields = fields }
+Holds (journal transactions bytes) =
+    (recordsOf transactions ≡ bytes) × (recordsIn bytes ≡ record { transactions = transactions; used = length bytes; badLink = false })
 
 abbrev pub AllHold : List Case → Type 0
 AllHold [] = Unit
 AllHold (c ∷ rest) = Holds c × AllHold rest
-
-abbrev pub cases : List Case
-cases =
-    -- "W1: 0xC4 with 17 bytes: 1, sent length 64."
-    shown (up 0xC4 17 ∷ []) ((1, 64) ∷ []) (pattern 0 17 ++ replicate 47 0)
-    -- "W2: 16 bytes: 5."
-    ∷ answered (up 0xC4 16 ∷ []) ((5, 0) ∷ [])
-    -- "W3: first and five middles of 240, last of 96 (1536): 1."
-    ∷ shown (up 0x84 240 ∷ replicate 5 (up 0x04 240) ++ (up 0x44 96 ∷ [])) (replicate 6 (0, 0) ++ ((1, 1536) ∷ [])) (pattern 0 1536)
-    -- "W4: last of 97: 4."
-    ∷ counted (up 0x84 240 ∷ replicate 5 (up 0x04 240) ++ (up 0x44 97 ∷ [])) (replicate 6 (0, 0) ++ ((4, 0) ∷ [])) (counting (line over 1 7 1537 ∷ []) 0 7)
-    -- "W5: 0x04 of 3: 2."
-    ∷ answered (up 0x04 3 ∷ []) ((2, 0) ∷ [])
-    -- "W6: 0x84 of 20, 0xCA of 2 bytes, 0x44 of 20: 0, 8, 2."
-    ∷ counted (up 0x84 20 ∷ up 0xCA 2 ∷ up 0x44 20 ∷ []) ((0, 0) ∷ (8, 0) ∷ (2, 0) ∷ []) (counting (line flushed 1 1 20 ∷ line aborted 0 1 20 ∷ []) 1 3)
-    -- "W7: 0x84 of 20, 0x04 of 0, 0x44 of 20: 0, 3, 2."
-    ∷ counted (up 0x84 20 ∷ up 0x04 0 ∷ up 0x44 20 ∷ []) ((0, 0) ∷ (3, 0) ∷ (2, 0) ∷ []) (counting (line broken 1 1 20 ∷ line aborted 0 1 20 ∷ line badlength 0 1 0 ∷ []) 0 3)
-    -- "W8: 0x84 link up, 0x44 link down, 20 each: 0, 6. The other way about: 0, 1."
-    ∷ counted (up 0x84 20 ∷ down 0x44 20 ∷ []) ((0, 0) ∷ (6, 0) ∷ []) (counting (line linkdown 1 2 40 ∷ []) 0 2)
-    ∷ counted (down 0x84 20 ∷ up 0x44 20 ∷ []) ((0, 0) ∷ (1, 64) ∷ []) (counting (line sent 1 2 40 ∷ []) 0 2)
-    -- "W9: Set Link 0x219, copper: accepted."
-    ∷ link 0x219 Copper (accepted 0x219)
-    -- "W10: 0x109: 0x0002."
-    ∷ link 0x109 Copper (refused 0x0002)
-    -- "W11: 0x10D: accepted on copper, 0x0902 on fibre."
-    ∷ link 0x10D Copper (accepted 0x10D)
-    ∷ link 0x10D Fibre (refused 0x0902)
-    -- "W12: 0x30C: 0x0905."
-    ∷ link 0x30C Copper (refused 0x0905)
-    -- "W13: length 64, VLAN 0, decision 7 matched: 40 00 01 00 00 00 70 01."
-    ∷ status
-    (record { length = 64; vlan = 0; «decision_match» = true; «decision_index» = 7; «vlan_match» = false; «vlan_index» = 0 })
-    (0x40 ∷ 0x00 ∷ 0x01 ∷ 0x00 ∷ 0x00 ∷ 0x00 ∷ 0x70 ∷ 0x01 ∷ [])
-    ∷ []
-
-abbrev pub Worked : Type 0
-Worked = AllHold cases
