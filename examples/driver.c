@@ -20,8 +20,9 @@ static bool bus_next(struct transaction *next)
 {
     static const uint8_t bytes[32] = {0x41};
     static const struct transaction all[] = {
-        {0xC4, bytes, 20, true}, {0x84, bytes, 32, true}, {0x84, bytes, 10, true},
-        {0x44, bytes, 5, true},  {0x04, bytes, 3, true},  {0xCA, bytes, 1, true},
+        {TCO_COMMAND_WHOLE, bytes, 20, true}, {TCO_COMMAND_FIRST, bytes, 32, true},
+        {TCO_COMMAND_FIRST, bytes, 10, true}, {TCO_COMMAND_LAST, bytes, 5, true},
+        {TCO_COMMAND_MIDDLE, bytes, 3, true}, {TCO_COMMAND_RECEIVE_ENABLE, bytes, 1, true},
     };
     static size_t done = 0;
     if (done == sizeof all / sizeof *all)
@@ -44,31 +45,60 @@ static void network_send(const uint8_t *packet, size_t length)
     printf("\n");
 }
 
+/* What the driver keeps from call to call. */
+static tco_state state;
+static uint8_t store[TCO_STORE_SIZE];
+static uint8_t settings[TCO_SETTINGS_SIZE];
+
+static void print_account(void)
+{
+    uint8_t printout[TCO_PRINTOUT_SIZE];
+    fwrite(printout, 1, tco_print_account(state.account, printout, sizeof printout), stdout);
+}
+
+static bool start(void)
+{
+    tco_made made = tco_fresh_state(32);
+    state = made.state;
+    return made.answer == TCO_DONE && tco_fresh_settings(settings, sizeof settings) == TCO_DONE;
+}
+
+static tco_reply transact(struct transaction next)
+{
+    return tco_transact(&state, store, sizeof store, settings, sizeof settings, next.command,
+                        next.bytes, next.length, next.link_up);
+}
+
 int main(void)
 {
-    static uint8_t store[TCO_STORE_SIZE];
-    static uint8_t settings[TCO_SETTINGS_SIZE];
-    static uint8_t printout[1024];
     struct transaction next;
 
-    tco_made made = tco_fresh_account(32);
-    if (made.answer != 0 || tco_fresh_settings(settings, sizeof settings) != 0)
+    if (!start())
         return EXIT_FAILURE;
-    tco_account account = made.account;
 
     while (bus_next(&next)) {
-        tco_reply reply = tco_transact(&account, store, sizeof store, settings, sizeof settings,
-                                       next.command, next.bytes, next.length, next.link_up);
-        if (reply.answer == TCO_SENT)
+        tco_reply reply = transact(next);
+        if (reply.answer == TCO_FULL) {
+            print_account();
+            start();
+            reply = transact(next);
+        }
+        switch (reply.answer) {
+        case TCO_SENT:
             network_send(store, tco_shown(store, sizeof store, reply.sent));
-        if (reply.answer == TCO_ABORTED)
+            break;
+        case TCO_ABORTED:
             bus_abort();
-        if (reply.answer >= TCO_NO_ROOM) {
+            break;
+        case TCO_NO_ROOM:
+        case TCO_NOT_SOUND:
             fprintf(stderr, "not counted: answer %u\n", (unsigned)reply.answer);
             return EXIT_FAILURE;
+        default:
+            break;
         }
     }
 
-    fwrite(printout, 1, tco_print_account(account, printout, sizeof printout), stdout);
+    print_account();
     return EXIT_SUCCESS;
 }

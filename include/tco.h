@@ -4,13 +4,15 @@
  *
  * Whatever numbers, bytes and lengths come in, every function answers. What its caller must keep:
  *
- * - A pointer points to as many bytes as the length behind it says; also where that is 0, it is not null.
- * - What one call is handed does not overlap, but for buffers that it only reads, and nothing else
- *   writes there during the call.
+ * - A pointer to bytes points to as many as the length behind it says. Where that is 0, it still is
+ *   not null.
+ * - The pointer to a state is not null, is aligned as a tco_state is, and points to one.
+ * - What one call is handed does not overlap, but for buffers that it only reads. While it runs,
+ *   nothing else writes there, or reads what it may write.
  * - A bool is 0 or 1.
- * - Account, store, settings and the Set Link word are handed back unaltered to the next call: else
- *   the account is no longer that of the transactions. They are the caller's: nothing is kept between
- *   calls.
+ * - State, store and settings are handed back unaltered to the next call: else the account is no
+ *   longer that of the transactions. The Set Link word in force goes back to the next tco_set_link;
+ *   the account does not depend on it. All are the caller's: nothing is kept between calls.
  */
 #ifndef TCO_H
 #define TCO_H
@@ -23,25 +25,35 @@
 extern "C" {
 #endif
 
-/* Answers. A call that is done and has no number of its own answers 0. */
+/* Command bytes of a transaction. Every other one is unknown. */
 enum {
-    TCO_TAKEN = 0,          /* fragment taken, its packet stays open; or done */
+    TCO_COMMAND_FIRST = 0x84,         /* first fragment of a packet */
+    TCO_COMMAND_MIDDLE = 0x04,        /* middle fragment */
+    TCO_COMMAND_LAST = 0x44,          /* last fragment */
+    TCO_COMMAND_WHOLE = 0xC4,         /* whole packet in one fragment */
+    TCO_COMMAND_RECEIVE_ENABLE = 0xCA /* new receive settings */
+};
+
+/* Answers. */
+enum {
+    TCO_DONE = 0,           /* of every call but tco_transact: done */
+    TCO_JOINED = 0,         /* of tco_transact: fragment joined its packet, which stays open */
     TCO_SENT = 1,           /* packet sent, with its sent length */
     TCO_ABORTED = 2,        /* fragment not First, none open: assert the abort status */
-    TCO_BAD_LENGTH = 3,     /* fragment of 0 bytes or above the maximum */
+    TCO_BAD_LENGTH = 3,     /* fragment without data, or longer than the maximum */
     TCO_OVER = 4,           /* packet of more than 1536 bytes, discarded */
     TCO_SHORT = 5,          /* packet of fewer than 17 bytes, discarded */
     TCO_LINK_DOWN = 6,      /* link down at the Last, packet discarded */
     TCO_UNKNOWN = 7,        /* unknown command */
-    TCO_ENABLE_LENGTH = 8,  /* Receive Enable not of 1 or 14 bytes */
+    TCO_ENABLE_LENGTH = 8,  /* Receive Enable of neither form, 1 or 14 bytes */
     TCO_ENABLE_CONTROL = 9, /* control byte not allowed */
     TCO_ENABLE_NO_MAC = 10, /* dedicated MAC asked for, short form, and none kept */
     TCO_ENABLED = 11,       /* Receive Enable taken */
     TCO_NO_ROOM = 12,       /* store or settings too short; nothing changed */
-    TCO_NOT_SOUND = 13,     /* account or settings not sound; nothing changed */
-    TCO_FULL = 14,          /* account full; nothing changed */
+    TCO_NOT_SOUND = 13,     /* state or settings not sound; nothing changed */
+    TCO_FULL = 14,          /* account full: its total is TCO_LIMIT; nothing changed */
     TCO_BAD_STATUS = 15,    /* status field or block not allowed */
-    TCO_BAD_MAXIMUM = 16    /* fragment maximum not 1 to 240 */
+    TCO_BAD_MAXIMUM = 16    /* fragment maximum not 1 to TCO_MAXIMUM */
 };
 
 /* Rows of the grid, each of TCO_COLUMNS numbers: packets, fragments, bytes. */
@@ -55,15 +67,21 @@ enum {
     TCO_ROW_LINK_DOWN = 6,
     TCO_ROW_ABORTED = 7,
     TCO_ROW_BAD_LENGTH = 8,
+    TCO_ROWS = 9,
     TCO_COLUMNS = 3
 };
 
 enum {
+    TCO_MAXIMUM = 240,      /* the largest fragment maximum */
     TCO_STORE_SIZE = 1536,  /* the least bytes of a store */
-    TCO_SETTINGS_SIZE = 15, /* the least bytes of a settings record */
+    TCO_SETTINGS_SIZE = 15, /* the least bytes of settings */
     TCO_FLASH_SIZE = 10,    /* the least bytes of a Flash block: host MAC, then IPv4 */
-    TCO_STATUS_SIZE = 8     /* the bytes of a status block */
+    TCO_STATUS_SIZE = 8,    /* the bytes of a status block */
+    TCO_PRINTOUT_SIZE = 846 /* no printout has more bytes */
 };
+
+/* The total of a full account. */
+#define TCO_LIMIT UINT64_C(4294967295)
 
 /* Sources of a tco_part. */
 enum { TCO_NOWHERE = 0, TCO_SETTINGS = 1, TCO_FLASH = 2 };
@@ -72,12 +90,17 @@ enum { TCO_NOWHERE = 0, TCO_SETTINGS = 1, TCO_FLASH = 2 };
 enum { TCO_COPPER = 0, TCO_FIBRE = 1 };
 
 typedef struct {
-    uint64_t maximum;  /* the most data bytes of a fragment */
-    uint64_t grid[27]; /* what became of fragments and packets, row after row */
-    uint64_t open_fragments, open_bytes; /* of the packet that is open */
-    uint64_t taken, refused;             /* commands */
-    uint64_t total;                      /* every transaction counted */
+    uint64_t grid[TCO_ROWS * TCO_COLUMNS]; /* what became of fragments and packets, row after row */
+    uint64_t open_fragments, open_bytes;   /* of the packet that is open */
+    uint64_t taken;                        /* commands answered 11 */
+    uint64_t refused;                      /* commands answered 7 to 10 */
+    uint64_t total;                        /* transactions counted: those answered 0 to 11 */
 } tco_account;
+
+typedef struct {
+    tco_account account;
+    uint64_t maximum; /* the most data bytes of a fragment */
+} tco_state;
 
 typedef struct {
     uint32_t answer;
@@ -86,12 +109,12 @@ typedef struct {
 
 typedef struct {
     uint32_t answer;
-    tco_account account;
+    tco_state state;
 } tco_made;
 
 typedef struct {
     uint32_t source; /* TCO_SETTINGS or TCO_FLASH; TCO_NOWHERE where all is 0 */
-    uint32_t start, length;
+    uint32_t start, length; /* in bytes */
 } tco_part;
 
 typedef struct {
@@ -105,7 +128,7 @@ typedef struct {
 
 typedef struct {
     uint32_t answer;
-    uint8_t block[8];
+    uint8_t block[TCO_STATUS_SIZE];
 } tco_status_written;
 
 typedef struct {
@@ -118,18 +141,23 @@ typedef struct {
     uint32_t in_force;
 } tco_link;
 
-/* A fresh account for fragments of at most `maximum` data bytes, 1 to 240, answered 0; else the one
-   for 240, answered 16. The account is kept as it is and changed by tco_transact alone. */
-tco_made tco_fresh_account(uint32_t maximum);
+/* A fresh state for fragments of at most `maximum` data bytes, 1 to 240, answered 0; else the one for
+   240, answered 16. The state is kept as it is and changed by tco_transact alone. */
+tco_made tco_fresh_state(uint32_t maximum);
 
-/* Writes a fresh record into the first 15 bytes and answers 0; answers 12 and writes nothing where
-   there are fewer. The record is kept as it is and changed by tco_transact alone. */
+/* Writes fresh settings into the first 15 bytes and answers 0; answers 12 and writes nothing where
+   there are fewer. The settings are kept as they are and changed by tco_transact alone. */
 uint32_t tco_fresh_settings(uint8_t *settings, size_t settings_len);
 
-/* Takes one transaction: a command byte, its data and whether the link is up now. Account, store and
-   settings are changed where they lie, and go into the next call as they are; answered 12, 13 or 14,
-   nothing changed. Answered 1, the first `sent` bytes of the store are to be sent before the next call. */
-tco_reply tco_transact(tco_account *account, uint8_t *store, size_t store_len, uint8_t *settings,
+/* Does one transaction: a command byte, its data and whether the link is up now. A transaction
+   without data still needs a pointer that is not null. State, store and settings are changed where
+   they lie, and go into the next call as they are; answered 12, 13 or 14, nothing changed.
+
+   Answered 1, the first `sent` bytes of the store are to be sent before the next call. Answered 14,
+   the account is full and stays so: print it and keep it as evidence, start anew with a fresh state and
+   fresh settings, and do the transaction again. Nothing is open then, and the controller has to enable
+   receiving again; settings that are kept across a fresh state are not those of the new transactions. */
+tco_reply tco_transact(tco_state *state, uint8_t *store, size_t store_len, uint8_t *settings,
                        size_t settings_len, uint8_t command, const uint8_t *bytes, size_t bytes_len,
                        bool link_up);
 
@@ -156,11 +184,13 @@ tco_status_read tco_read_status(const uint8_t *block, size_t block_len);
 
 /* Judges a Set Link word over a medium, TCO_COPPER or TCO_FIBRE: response, reason, and the word in
    force from then on, which is handed to the next call; before the first it is 0. Any other medium is
-   answered 0x0001/0x0002. A refusal keeps the word in force. */
+   answered 0x0001/0x0002. A word that is not accepted leaves the one in force. Response and reason
+   are numbers: that NC-SI sends each high byte first is the caller's to do. */
 tco_link tco_set_link(uint32_t in_force, uint32_t word, bool host_present, uint32_t media);
 
-/* Prints the account as lines of text at the start of `out` and answers how many bytes it wrote; 0,
-   with nothing written, where they do not fit or the account is not sound. */
+/* Prints the account as lines of text at the start of `out` and gives how many bytes it wrote; 0,
+   with nothing written, where they do not fit or the account is not sound. TCO_PRINTOUT_SIZE bytes
+   are always enough. */
 size_t tco_print_account(tco_account account, uint8_t *out, size_t out_len);
 
 #ifdef __cplusplus

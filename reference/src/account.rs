@@ -1,11 +1,8 @@
 //! The account: what became of every counted transaction, and the packet that
 //! is open.
 
-use crate::answer_numbers::{DONE, MAXIMUM_NOT_ALLOWED};
-
-/// The highest fragment maximum, and the one that a fresh account gets in
-/// place of one that is not allowed.
-pub const HIGHEST_MAXIMUM: u64 = 240;
+/// The most data bytes of a fragment under any fragment maximum.
+pub const LONGEST_FRAGMENT: u64 = 240;
 /// The total of a full account.
 pub const HIGHEST_TOTAL: u64 = 4_294_967_295;
 
@@ -14,7 +11,7 @@ pub const FATES: usize = 9;
 /// The columns of the grid.
 pub const COLUMNS: usize = 3;
 /// The numbers of an account.
-pub const NUMBERS: usize = 1 + FATES * COLUMNS + 5;
+pub const NUMBERS: usize = FATES * COLUMNS + 5;
 
 /// The column of packets.
 pub const PACKETS: usize = 0;
@@ -62,8 +59,6 @@ pub const ROWS: [Fate; FATES] = [
 /// An account; any numbers may be handed in.
 #[derive(Clone, Copy, Debug, Default, PartialEq, Eq)]
 pub struct Account {
-    /// The most data bytes of a fragment.
-    pub maximum: u64,
     /// Packets, fragments and bytes of each fate.
     pub grid: [[u64; COLUMNS]; FATES],
     /// Fragments of the open packet; one is open where this is not zero.
@@ -84,7 +79,6 @@ impl Account {
         let mut rest = numbers.into_iter();
         let mut next = || rest.next().unwrap_or_default();
         Account {
-            maximum: next(),
             grid: std::array::from_fn(|_| std::array::from_fn(|_| next())),
             open_fragments: next(),
             open_bytes: next(),
@@ -97,34 +91,17 @@ impl Account {
     /// The numbers of the account, in the order of the fields.
     pub fn numbers(&self) -> [u64; NUMBERS] {
         let beside = [self.open_fragments, self.open_bytes, self.taken, self.refused, self.total];
-        let mut all =
-            [self.maximum].into_iter().chain(self.grid.into_iter().flatten()).chain(beside);
+        let mut all = self.grid.into_iter().flatten().chain(beside);
         std::array::from_fn(|_| all.next().unwrap_or_default())
     }
 }
 
-/// Makes a fresh account: the answer, and the account or, refused, the one for
-/// the highest maximum.
-pub fn fresh(maximum: u32) -> (u8, Account) {
-    let maximum = u64::from(maximum);
-    if maximum_allowed(maximum) {
-        (DONE, Account { maximum, ..Account::default() })
-    } else {
-        (MAXIMUM_NOT_ALLOWED, Account { maximum: HIGHEST_MAXIMUM, ..Account::default() })
-    }
-}
-
-/// Whether an account is sound.
+/// Whether an account is sound, whatever the fragment maximum.
 pub fn is_sound(account: &Account) -> bool {
     account.total <= HIGHEST_TOTAL
         && lines_sound(account)
         && ROWS.iter().all(|fate| row_sound(*fate, account.grid[*fate as usize]))
-        && maximum_allowed(account.maximum)
         && open_sound(account)
-}
-
-fn maximum_allowed(maximum: u64) -> bool {
-    (1..=HIGHEST_MAXIMUM).contains(&maximum)
 }
 
 /// Whether the fragments of the grid and the transactions beside it make up
@@ -141,14 +118,14 @@ fn row_sound(fate: Fate, row: [u64; COLUMNS]) -> bool {
     let has_packets = !matches!(fate, Fate::Aborted | Fate::BadLength);
     let has_bytes = fate != Fate::BadLength;
     row[PACKETS] <= row[FRAGMENTS]
-        && row[BYTES] <= HIGHEST_MAXIMUM * row[FRAGMENTS]
+        && row[BYTES] <= LONGEST_FRAGMENT * row[FRAGMENTS]
         && (has_packets || row[PACKETS] == 0)
         && (has_bytes || row[BYTES] == 0)
 }
 
-/// Whether the open packet is sound, its maximum allowed and its fragments at
-/// most the highest total.
+/// Whether the open packet is sound whose fragments are at most the highest
+/// total.
 fn open_sound(account: &Account) -> bool {
     account.open_bytes >= account.open_fragments
-        && account.open_bytes <= account.maximum * account.open_fragments
+        && account.open_bytes <= LONGEST_FRAGMENT * account.open_fragments
 }

@@ -20,11 +20,11 @@ const DIGEST_FACTOR: u64 = 257;
 const DIGEST_MODULUS: u64 = 4_294_967_291;
 
 const SOURCE_NONE: u8 = 0;
-const SOURCE_RECORD: u8 = 1;
+const SOURCE_SETTINGS: u8 = 1;
 const SOURCE_FLASH: u8 = 2;
 
 /// Why a line is not answered.
-enum Stopped {
+pub enum Stopped {
     NotACase(NotACase),
     Disagreement(Disagreement),
 }
@@ -92,13 +92,14 @@ fn answer_case(carried: &mut Carried, case: &str) -> Result<String, Stopped> {
         "fresh-settings" => fresh_settings(fields)?,
         "sound-settings" => sound_settings(fields)?,
         "enable" => enable(fields)?,
-        "mac" => mac(fields)?,
-        "ipv4" => ipv4(fields)?,
+        "mac" => address(fields, settings::mac_in_force)?,
+        "ipv4" => address(fields, settings::ipv4_in_force)?,
         "append" => transactions::append(fields)?,
         "fill" => transactions::fill(fields)?,
         "shown" => transactions::shown(fields)?,
-        "fresh-account" => transactions::fresh_account(fields)?,
         "sound-account" => transactions::sound_account(fields)?,
+        "fresh-state" => transactions::fresh_state(fields)?,
+        "sound-state" => transactions::sound_state(fields)?,
         "start" => transactions::start(carried, fields)?,
         "send" => transactions::send(carried, fields)?,
         "send-pattern" => transactions::send_pattern(carried, fields)?,
@@ -183,45 +184,38 @@ fn read_status(mut fields: Fields) -> Result<Line, NotACase> {
 }
 
 fn fresh_settings(mut fields: Fields) -> Result<Line, NotACase> {
-    let mut record = fields.bytes()?;
+    let mut lent = fields.bytes()?;
     fields.end()?;
-    let answer = settings::fresh(&mut record);
-    Ok(Line::answer().u8(answer).bytes(&record))
+    let answer = settings::fresh(&mut lent);
+    Ok(Line::answer().u8(answer).bytes(&lent))
 }
 
 fn sound_settings(mut fields: Fields) -> Result<Line, NotACase> {
-    let record = fields.bytes()?;
+    let lent = fields.bytes()?;
     fields.end()?;
-    Ok(Line::answer().bool(settings::is_sound(&record)))
+    Ok(Line::answer().bool(settings::is_sound(&lent)))
 }
 
 fn enable(mut fields: Fields) -> Result<Line, NotACase> {
-    let mut record = fields.bytes()?;
+    let mut lent = fields.bytes()?;
     let data = fields.bytes()?;
     fields.end()?;
-    let answer = settings::receive_enable(&mut record, &data);
-    Ok(Line::answer().u8(answer).bytes(&record))
+    let answer = settings::receive_enable(&mut lent, &data);
+    Ok(Line::answer().u8(answer).bytes(&lent))
 }
 
-fn mac(mut fields: Fields) -> Result<Line, NotACase> {
-    let record = fields.bytes()?;
+fn address(
+    mut fields: Fields,
+    in_force: for<'a> fn(&'a [u8], &'a [u8]) -> AddressInForce<'a>,
+) -> Result<Line, NotACase> {
+    let lent = fields.bytes()?;
     let flash = fields.bytes()?;
     fields.end()?;
-    Ok(address(settings::mac_in_force(&record, &flash)))
-}
-
-fn ipv4(mut fields: Fields) -> Result<Line, NotACase> {
-    let record = fields.bytes()?;
-    let flash = fields.bytes()?;
-    fields.end()?;
-    Ok(address(settings::ipv4_in_force(&record, &flash)))
-}
-
-fn address(in_force: AddressInForce) -> Line {
-    let source = match in_force {
+    let address = in_force(&lent, &flash);
+    let source = match address {
         AddressInForce::Nowhere => SOURCE_NONE,
-        AddressInForce::Record(_) => SOURCE_RECORD,
+        AddressInForce::Settings(_) => SOURCE_SETTINGS,
         AddressInForce::Flash(_) => SOURCE_FLASH,
     };
-    Line::answer().u8(source).bytes(in_force.part())
+    Ok(Line::answer().u8(source).bytes(address.part()))
 }

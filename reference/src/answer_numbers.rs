@@ -1,7 +1,9 @@
 //! The answer numbers.
 
-/// The call did what it was asked for; of a fragment, that it was taken and
-/// its packet is open.
+/// A fragment joined its packet, which is open.
+pub const JOINED: u8 = 0;
+
+/// Of a call that is no transaction: it did what it was asked for.
 pub const DONE: u8 = 0;
 
 /// Packet sent.
@@ -40,7 +42,7 @@ pub const RECEIVE_ENABLE_TAKEN: u8 = 11;
 /// A lent buffer is too short.
 pub const TOO_SHORT: u8 = 12;
 
-/// A lent record or account is not sound.
+/// The state or the settings are not sound.
 pub const NOT_SOUND: u8 = 13;
 
 /// The account is full.

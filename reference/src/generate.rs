@@ -8,6 +8,7 @@ mod packet;
 mod printouts;
 mod setlink;
 mod settings;
+mod state;
 mod status;
 mod transactions;
 
@@ -17,12 +18,13 @@ use crate::text::Line;
 type Subject = (&'static str, fn(&mut Cases));
 
 /// The subjects in the order of their cases.
-const SUBJECTS: [Subject; 9] = [
+const SUBJECTS: [Subject; 10] = [
     ("setlink", setlink::generate),
     ("status", status::generate),
     ("settings", settings::generate),
     ("packet", packet::generate),
     ("account", account::generate),
+    ("state", state::generate),
     ("transactions", transactions::generate),
     ("lists", lists::generate),
     ("journals", journals::generate),
@@ -49,7 +51,7 @@ fn text(subjects: &[Subject]) -> String {
 }
 
 /// The cases so far.
-struct Cases {
+pub struct Cases {
     text: String,
 }
 
@@ -67,6 +69,20 @@ impl Cases {
         self.text.push_str("# ");
         self.text.push_str(name);
         self.text.push('\n');
+    }
+
+    /// Adds a group of cases, each named with what becomes of it.
+    fn named_group(
+        &mut self,
+        title: &str,
+        outcome: &str,
+        cases: impl IntoIterator<Item = (String, Line)>,
+    ) {
+        self.group(title);
+        for (name, case) in cases {
+            self.name(&format!("{name}: {outcome}"));
+            self.case(case);
+        }
     }
 
     /// Adds a case.

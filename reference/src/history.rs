@@ -1,5 +1,5 @@
-//! The account worked out from the list of counted transactions, by cutting
-//! the list into runs from a First to its Last.
+//! The account as the list gives it: every counted transaction in order, cut into
+//! runs from a First to its Last, with nothing replayed.
 //!
 //! Nothing is replayed: what a transaction means, how long it may be and what
 //! ends a run is read here afresh, from the list alone.
@@ -8,7 +8,7 @@ use std::iter;
 
 use crate::account::{Account, Fate, BYTES, COLUMNS, FRAGMENTS, PACKETS};
 use crate::answer_numbers::{
-    ABORTED, CONTROL_NOT_ALLOWED, DONE, FRAGMENT_LENGTH, LINK_DOWN, NO_MAC_KEPT, PACKET_SENT,
+    ABORTED, CONTROL_NOT_ALLOWED, FRAGMENT_LENGTH, JOINED, LINK_DOWN, NO_MAC_KEPT, PACKET_SENT,
     PACKET_TOO_LONG, PACKET_TOO_SHORT, RECEIVE_ENABLE_LENGTH, RECEIVE_ENABLE_TAKEN,
     UNKNOWN_COMMAND,
 };
@@ -106,8 +106,7 @@ pub struct History<'a> {
 impl<'a> History<'a> {
     /// The account.
     pub fn account(&self) -> Account {
-        let mut account =
-            Account { maximum: self.maximum, total: self.list.len() as u64, ..Account::default() };
+        let mut account = Account { total: self.list.len() as u64, ..Account::default() };
         for run in self.runs() {
             let fragments = self.places(run).count() as u64;
             let bytes = self.length(run);
@@ -144,7 +143,7 @@ impl<'a> History<'a> {
                     _ => (PACKET_SENT, self.length(run).max(FILLED_TO)),
                 }
             }
-            Place::InRun(_) => (DONE, 0),
+            Place::InRun(_) => (JOINED, 0),
             Place::Aborted => (ABORTED, 0),
             Place::BadLength => (FRAGMENT_LENGTH, 0),
             Place::Taken => (RECEIVE_ENABLE_TAKEN, 0),
@@ -172,7 +171,7 @@ impl<'a> History<'a> {
         let fill = FILLED_TO.saturating_sub(self.length(run)) as usize;
         self.places(run)
             .flat_map(move |number| self.list[number].data.iter().copied())
-            .chain(iter::repeat_n(0, fill))
+            .chain(iter::repeat(0).take(fill))
     }
 
     /// The bytes of an open packet that stand in the store: those before the
@@ -222,8 +221,9 @@ impl<'a> History<'a> {
 
     /// The run that begins at a place, by looking forward from there.
     fn run_from(&self, first: usize) -> Option<Run> {
-        let Reading::Fragment { first: true, last } = self.reading(first) else {
-            return None;
+        let last = match self.reading(first) {
+            Reading::Fragment { first: true, last } => last,
+            _ => return None,
         };
         if last {
             return Some(Run { first, end: first + 1, ending: Ending::Last });

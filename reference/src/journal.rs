@@ -4,10 +4,11 @@
 //! bits low byte first, and the fragment maximum as a byte. A record is a
 //! command, the link and a length, a byte each, and that many bytes of data.
 
-use crate::account::{self, Account};
+use crate::account::Account;
 use crate::answer_numbers::DONE;
 use crate::packet::LONGEST_PACKET;
-use crate::settings::{FRESH_RECORD, RECORD_BYTES};
+use crate::settings::{FRESH_SETTINGS, SETTINGS_BYTES};
+use crate::state::{self, State};
 use crate::translator;
 
 /// What every header begins with: its name and version 1.
@@ -23,15 +24,15 @@ const LONGEST_RECORD: usize = RECORD_HEAD_BYTES + u8::MAX as usize;
 pub struct Replay {
     held: [u8; LONGEST_RECORD],
     held_bytes: usize,
-    state: State,
+    known: Known,
 }
 
 /// What is known after the last whole header or record.
-struct State {
+struct Known {
     stage: Stage,
-    account: Account,
+    state: State,
     store: [u8; LONGEST_PACKET as usize],
-    settings: [u8; RECORD_BYTES],
+    settings: [u8; SETTINGS_BYTES],
 }
 
 #[derive(Clone, Copy, PartialEq, Eq)]
@@ -44,13 +45,13 @@ enum Stage {
 impl Replay {
     /// A journal of which nothing was read yet.
     pub fn new() -> Replay {
-        let state = State {
+        let known = Known {
             stage: Stage::Header,
-            account: Account::default(),
+            state: State::default(),
             store: [0; LONGEST_PACKET as usize],
-            settings: FRESH_RECORD,
+            settings: FRESH_SETTINGS,
         };
-        Replay { held: [0; LONGEST_RECORD], held_bytes: 0, state }
+        Replay { held: [0; LONGEST_RECORD], held_bytes: 0, known }
     }
 
     /// Reads the next piece.
@@ -61,13 +62,14 @@ impl Replay {
             // not whole has taken in the whole piece.
             let before = self.held_bytes;
             self.hold(&rest[..rest.len().min(LONGEST_RECORD - before)]);
-            let Some(size) = self.state.take(&self.held[..self.held_bytes]) else {
-                return;
+            let size = match self.known.take(&self.held[..self.held_bytes]) {
+                Some(size) => size,
+                None => return,
             };
             self.held_bytes = 0;
             rest = &rest[size - before..];
         }
-        while let Some(size) = self.state.take(rest) {
+        while let Some(size) = self.known.take(rest) {
             rest = &rest[size..];
         }
         self.hold(rest);
@@ -75,8 +77,8 @@ impl Replay {
 
     /// The account, all pieces read; none of a bad journal.
     pub fn end(self) -> Option<Account> {
-        let whole = self.state.stage == Stage::Records && self.held_bytes == 0;
-        whole.then_some(self.state.account)
+        let whole = self.known.stage == Stage::Records && self.held_bytes == 0;
+        whole.then_some(self.known.state.account)
     }
 
     fn hold(&mut self, bytes: &[u8]) {
@@ -91,7 +93,7 @@ impl Default for Replay {
     }
 }
 
-impl State {
+impl Known {
     /// Takes what comes next, and gives its size; nothing where it is not
     /// whole. All that follows what is bad is passed over.
     fn take(&mut self, bytes: &[u8]) -> Option<usize> {
@@ -103,22 +105,21 @@ impl State {
     }
 
     fn header(&mut self, bytes: &[u8]) -> Option<usize> {
-        let (start, [maximum, ..]) = bytes.split_at_checked(HEADER_START.len())? else {
-            return None;
-        };
-        let (answer, account) = account::fresh(u32::from(*maximum));
+        let (maximum, start) = bytes.get(..HEADER_BYTES)?.split_last()?;
+        let (answer, state) = state::fresh(u32::from(*maximum));
         let good = start == HEADER_START && answer == DONE;
         self.stage = if good { Stage::Records } else { Stage::Bad };
-        self.account = account;
+        self.state = state;
         Some(HEADER_BYTES)
     }
 
     fn record(&mut self, bytes: &[u8]) -> Option<usize> {
-        let [command, link, length, rest @ ..] = bytes else {
-            return None;
+        let (command, link, length, rest) = match bytes {
+            [command, link, length, rest @ ..] => (*command, *link, *length, rest),
+            _ => return None,
         };
-        let data = rest.get(..usize::from(*length))?;
-        let link_up = match *link {
+        let data = rest.get(..usize::from(length))?;
+        let link_up = match link {
             0 => false,
             1 => true,
             _ => {
@@ -128,8 +129,8 @@ impl State {
         };
         // Its answer is nobody's concern: what was counted stands in the
         // account, and a full one stays as it is.
-        let State { account, store, settings, .. } = self;
-        translator::transact(account, store, settings, *command, data, link_up);
+        let Known { state, store, settings, .. } = self;
+        translator::transact(state, store, settings, command, data, link_up);
         Some(RECORD_HEAD_BYTES + data.len())
     }
 }

@@ -21,12 +21,13 @@
 //! | `append SIZE/2 SEED/1 AT/8 FRAGMENT` | `DIGEST/4` |
 //! | `fill SIZE/2 SEED/1 LENGTH/8` | `DIGEST/4` |
 //! | `shown SIZE/2 SEED/1 LENGTH/8` | `LENGTH/2 DIGEST/4` |
-//! | `fresh-account MAXIMUM/4` | `ANSWER/1 ACCOUNT` |
 //! | `sound-account ACCOUNT` | `SOUND/1` |
-//! | `start ACCOUNT STORE_SIZE/2 STORE_SEED/1 SETTINGS` | `SOUND/1` |
+//! | `fresh-state MAXIMUM/4` | `ANSWER/1 STATE` |
+//! | `sound-state STATE` | `SOUND/1` |
+//! | `start STATE STORE_SIZE/2 STORE_SEED/1 SETTINGS` | `SOUND/1` |
 //! | `send COMMAND/1 LINK/1 DATA` | `ANSWER/1 SENT/2 DIGEST/4 DIGEST/4 DIGEST/4` |
 //! | `send-pattern COMMAND/1 LINK/1 SIZE/2 SEED/1` | as for `send` |
-//! | `show` | `ACCOUNT SETTINGS` |
+//! | `show` | `STATE SETTINGS` |
 //! | `packet LENGTH/8` | `LENGTH/2 DIGEST/4` |
 //! | `journal PIECE/2 JOURNAL` | `PRINTOUT` |
 //! | `print ACCOUNT ROOM/2` | `LENGTH/2 BUFFER` |
@@ -36,24 +37,25 @@
 //! copper, absent on fibre, present on copper, present on fibre; its digest is
 //! over the bytes of the answers that `link` would give. STATUS stands for the
 //! fields `LENGTH/2 VLAN/2 DECISION_MATCH/1 DECISION_INDEX/1 VLAN_MATCH/1
-//! VLAN_INDEX/1`. SOURCE is 00 for no address, 01 for the record and 02 for the
-//! Flash block.
+//! VLAN_INDEX/1`. SOURCE is 00 for no address, 01 for the settings and 02 for
+//! the Flash block.
 //!
 //! A pattern of a size and a seed has the byte (seed + 7 * i) mod 256 at place
 //! i. `append`, `fill` and `shown` work on a store of that pattern; the first
 //! two answer with the digest of the whole store afterwards, `shown` with the
-//! length and the digest of the part. ACCOUNT is 264 bytes: 33 numbers of eight
-//! bytes, which are the maximum, the nine rows of packets, fragments and bytes
-//! (sent, superseded, flushed, broken, over, short, linkdown, aborted,
-//! badlength), open fragments, open bytes, taken, refused and total.
+//! length and the digest of the part. ACCOUNT is 256 bytes: 32 numbers of eight
+//! bytes, which are the nine rows of packets, fragments and bytes (sent,
+//! superseded, flushed, broken, over, short, linkdown, aborted, badlength), open
+//! fragments, open bytes, taken, refused and total. STATE is 264 bytes: those of
+//! the account, then the maximum as a number of eight bytes.
 //!
-//! `start` gives the account, a store of a pattern of at most 2048 bytes and at
+//! `start` gives the state, a store of a pattern of at most 2048 bytes and at
 //! most 64 bytes of settings that are carried from there on; before it they are
 //! 33 zeros and no bytes. `send` does one transaction on them, `send-pattern`
 //! the same with data of a pattern of at most 2048 bytes; the three digests are
-//! those of the account, the store and the settings afterwards. `show` shows
-//! the account and the settings that are carried, `packet` what is shown of the
-//! store. Where the account that was given was fresh, every transaction is
+//! those of the state, the store and the settings afterwards. `show` shows the
+//! state and the settings that are carried, `packet` what is shown of the
+//! store. Where the state that was given was fresh, every transaction is
 //! compared with the history, and the program stops if they disagree.
 //!
 //! `journal` reads a journal in pieces of PIECE bytes, of which the last may be
@@ -95,8 +97,8 @@ usage: reference generate [SUBJECT]
 
 const HELP: &str = "
 generate       prints all test cases, or those of a subject: setlink, status,
-               settings, packet, account, transactions, lists, journals,
-               printouts
+               settings, packet, account, state, transactions, lists,
+               journals, printouts
 answer         reads test cases on standard input and prints their answers
 account        reads a journal, from standard input where no file is named, and
                prints its account, or `bad journal` alone

@@ -9,9 +9,7 @@ pub const SHORTEST_SENT: u64 = 64;
 /// Writes a fragment at a place of the store; writes nothing where its end
 /// would lie past the longest packet or past the store.
 pub fn append(store: &mut [u8], at: u64, fragment: &[u8]) {
-    let Some(end) = at.checked_add(fragment.len() as u64) else {
-        return;
-    };
+    let end = at.saturating_add(fragment.len() as u64);
     if end <= LONGEST_PACKET && end <= store.len() as u64 {
         store[at as usize..end as usize].copy_from_slice(fragment);
     }

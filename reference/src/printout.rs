@@ -34,11 +34,13 @@ pub fn print(account: &Account, room: &mut [u8]) -> usize {
     if !account::is_sound(account) || write_lines(&mut text, account).is_err() {
         return 0;
     }
-    let Some(room) = room.get_mut(..text.length) else {
-        return 0;
-    };
-    room.copy_from_slice(&text.bytes[..text.length]);
-    text.length
+    match room.get_mut(..text.length) {
+        Some(room) => {
+            room.copy_from_slice(&text.bytes[..text.length]);
+            text.length
+        }
+        None => 0,
+    }
 }
 
 fn write_lines(text: &mut Text, account: &Account) -> fmt::Result {

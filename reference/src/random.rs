@@ -25,6 +25,15 @@ impl Random {
         self.u64() % limit
     }
 
+    /// A number from the least to the most, often one of these two.
+    pub fn between(&mut self, least: u64, most: u64) -> u64 {
+        match self.below(4) {
+            0 => least,
+            1 => most,
+            _ => least + self.below(most - least + 1),
+        }
+    }
+
     /// True once in so many times on average.
     pub fn one_in(&mut self, times: u64) -> bool {
         self.below(times) == 0

@@ -29,7 +29,7 @@ pub const FAILED: u16 = 0x0001;
 
 /// Reason code: no error.
 pub const NO_ERROR: u16 = 0x0000;
-/// Reason code: parameter is invalid, unsupported or out of range.
+/// Reason code: the word selects what cannot be.
 pub const INVALID_PARAMETER: u16 = 0x0002;
 /// Reason code: Set Link host OS or driver conflict.
 pub const HOST_CONFLICT: u16 = 0x0901;

@@ -40,7 +40,8 @@ pub struct StatusData {
     pub vlan_index: u8,
 }
 
-/// Writes a block: the answer, and the block or, refused, eight zero bytes.
+/// Writes a block: the answer, and the block or, where a field is not
+/// allowed, eight zero bytes.
 pub fn write(fields: &StatusData) -> (u8, [u8; BLOCK_BYTES]) {
     if !allowed(fields) {
         return (STATUS_NOT_ALLOWED, [0; BLOCK_BYTES]);
@@ -61,16 +62,17 @@ pub fn write(fields: &StatusData) -> (u8, [u8; BLOCK_BYTES]) {
     (DONE, block)
 }
 
-/// Reads a block: the answer, and the fields or, refused, all fields zero.
+/// Reads a block: the answer, and the fields or, where the bytes are
+/// not allowed, all fields zero.
 pub fn read(block: &[u8]) -> (u8, StatusData) {
-    let refused = (STATUS_NOT_ALLOWED, StatusData::default());
+    let not_allowed = (STATUS_NOT_ALLOWED, StatusData::default());
     if block.len() != BLOCK_BYTES {
-        return refused;
+        return not_allowed;
     }
     let packet_status = u16::from_le_bytes([block[2], block[3]]);
     let mng_status = u16::from_le_bytes([block[6], block[7]]);
     if packet_status != PACKET_STATUS || mng_status & MNG_RESERVED != 0 {
-        return refused;
+        return not_allowed;
     }
     let fields = StatusData {
         // The reserved bits 15:14 stay in: either of them makes the length
@@ -83,7 +85,7 @@ pub fn read(block: &[u8]) -> (u8, StatusData) {
         vlan_index: (mng_status & MNG_VLAN_INDEX) as u8,
     };
     if !allowed(&fields) {
-        return refused;
+        return not_allowed;
     }
     (DONE, fields)
 }

@@ -60,6 +60,11 @@ impl Line {
         self.bytes(&number.to_be_bytes())
     }
 
+    /// Adds numbers of eight bytes as one byte string.
+    pub fn numbers(self, numbers: &[u64]) -> Line {
+        self.bytes(&bytes_of(numbers))
+    }
+
     /// Adds a bool.
     pub fn bool(self, value: bool) -> Line {
         self.u8(u8::from(value))
@@ -143,6 +148,11 @@ impl<'a> Fields<'a> {
     fn array<const SIZE: usize>(&mut self) -> Result<[u8; SIZE], NotACase> {
         self.bytes()?.try_into().map_err(|_| "a number of the wrong size")
     }
+}
+
+/// The bytes of numbers of eight bytes, one after the other.
+pub fn bytes_of(numbers: &[u64]) -> Vec<u8> {
+    numbers.iter().flat_map(|number| number.to_be_bytes()).collect()
 }
 
 fn digit(character: u8) -> Result<u8, NotACase> {

@@ -1,12 +1,13 @@
 //! One transaction on the management bus: I210 data sheet, section 10.5.7.
 
-use crate::account::{self, Account, Fate, BYTES, FRAGMENTS, HIGHEST_TOTAL, PACKETS};
+use crate::account::{Account, Fate, BYTES, FRAGMENTS, HIGHEST_TOTAL, PACKETS};
 use crate::answer_numbers::{
-    ABORTED, ACCOUNT_FULL, DONE, FRAGMENT_LENGTH, LINK_DOWN, NOT_SOUND, PACKET_SENT,
+    ABORTED, ACCOUNT_FULL, FRAGMENT_LENGTH, JOINED, LINK_DOWN, NOT_SOUND, PACKET_SENT,
     PACKET_TOO_LONG, PACKET_TOO_SHORT, RECEIVE_ENABLE_TAKEN, TOO_SHORT, UNKNOWN_COMMAND,
 };
 use crate::packet::{self, LONGEST_PACKET, SHORTEST_SENT};
-use crate::settings::{self, RECORD_BYTES};
+use crate::settings::{self, SETTINGS_BYTES};
+use crate::state::{self, State};
 
 /// The shortest packet that can be sent.
 pub const SHORTEST_PACKET: u64 = 17;
@@ -58,25 +59,26 @@ const CLASS_OF: [Class; 256] = {
 /// Does one transaction: the answer, and the sent length, which is zero unless
 /// a packet is sent.
 pub fn transact(
-    account: &mut Account,
+    state: &mut State,
     store: &mut [u8],
     settings: &mut [u8],
     command: u8,
     data: &[u8],
     link_up: bool,
 ) -> (u8, u16) {
-    if (store.len() as u64) < LONGEST_PACKET || settings.len() < RECORD_BYTES {
+    if (store.len() as u64) < LONGEST_PACKET || settings.len() < SETTINGS_BYTES {
         return (TOO_SHORT, 0);
     }
-    if !account::is_sound(account) || !settings::is_sound(settings) {
+    if !state::is_sound(state) || !settings::is_sound(settings) {
         return (NOT_SOUND, 0);
     }
+    let State { account, maximum } = state;
     if account.total == HIGHEST_TOTAL {
         return (ACCOUNT_FULL, 0);
     }
     account.total += 1;
     match CLASS_OF[usize::from(command)] {
-        Class::Fragment => fragment(account, store, command, data, link_up),
+        Class::Fragment => fragment(account, *maximum, store, command, data, link_up),
         Class::ReceiveEnable => (receive_enable(account, settings, data), 0),
         Class::Unknown => (unknown(account, command), 0),
     }
@@ -84,13 +86,14 @@ pub fn transact(
 
 fn fragment(
     account: &mut Account,
+    maximum: u64,
     store: &mut [u8],
     command: u8,
     data: &[u8],
     link_up: bool,
 ) -> (u8, u16) {
     let bytes = data.len() as u64;
-    if bytes == 0 || bytes > account.maximum {
+    if bytes == 0 || bytes > maximum {
         end_packet(account, Fate::Broken);
         count_fragment(account, Fate::BadLength, 0);
         return (FRAGMENT_LENGTH, 0);
@@ -107,12 +110,12 @@ fn fragment(
     account.open_fragments += 1;
     account.open_bytes += bytes;
     if command & LAST == 0 {
-        return (DONE, 0);
+        return (JOINED, 0);
     }
     last(account, store, link_up)
 }
 
-/// Ends the open packet with its Last taken.
+/// Ends the open packet, which its Last has joined.
 fn last(account: &mut Account, store: &mut [u8], link_up: bool) -> (u8, u16) {
     let total = account.open_bytes;
     let (answer, fate) = if total > LONGEST_PACKET {

@@ -1,15 +1,12 @@
 //! Journals: the worked example, replay against the history of the list, and
 //! printouts.
 
-#[allow(dead_code)]
-#[path = "../src/random.rs"]
-mod random;
-
-use random::Random;
-use reference::account::{fresh, is_sound, Account, Fate, HIGHEST_TOTAL, ROWS};
+use reference::account::{is_sound, Account, Fate, HIGHEST_TOTAL, NUMBERS, ROWS};
 use reference::journal::Replay;
 use reference::listing::Listing;
 use reference::printout::{print, ENOUGH_ROOM};
+use reference::random::Random;
+use reference::state::fresh;
 
 const EXAMPLE: &str = "\
 fate packets fragments bytes
@@ -71,14 +68,14 @@ fn the_example() {
 fn a_header_alone() {
     for maximum in 0..=255 {
         let journal = [&b"TCO\x01\x00"[..], &[maximum]].concat();
-        let (answer, account) = fresh(u32::from(maximum));
-        assert_eq!(whole(&journal), (answer == 0).then_some(account), "maximum {maximum}");
+        let (answer, state) = fresh(u32::from(maximum));
+        assert_eq!(whole(&journal), (answer == 0).then_some(state.account), "maximum {maximum}");
         assert_eq!(in_pieces(journal.chunks(1)), whole(&journal), "maximum {maximum}");
     }
     let zeros = "sent 0 0 0\nsuperseded 0 0 0\nflushed 0 0 0\nbroken 0 0 0\nover 0 0 0\n\
                  short 0 0 0\nlinkdown 0 0 0\naborted 0 0 0\nbadlength 0 0 0\nopen 0 0 0\n\
                  taken 0\nrefused 0\ntotal 0\n";
-    assert_eq!(printed(&fresh(240).1), format!("fate packets fragments bytes\n{zeros}"));
+    assert_eq!(printed(&Account::default()), format!("fate packets fragments bytes\n{zeros}"));
 }
 
 #[test]
@@ -223,7 +220,7 @@ fn changed_journals_are_read_alike() {
 /// An account that is full of sent packets and open fragments.
 fn large() -> Account {
     let half = HIGHEST_TOTAL / 2;
-    let mut account = fresh(240).1;
+    let mut account = Account::default();
     account.grid[Fate::Sent as usize] = [half, half, 240 * half];
     account.open_fragments = half + 1;
     account.open_bytes = 240 * (half + 1);
@@ -265,11 +262,10 @@ fn any_room() {
 #[test]
 fn what_is_not_sound_is_not_printed() {
     let unsound = [
-        Account::default(),
-        Account { total: 1, ..fresh(32).1 },
-        Account { maximum: 241, ..fresh(32).1 },
-        Account { open_bytes: 1, ..fresh(32).1 },
-        Account::of_numbers([u64::MAX; 33]),
+        Account { total: 1, ..Account::default() },
+        Account { open_bytes: 1, ..Account::default() },
+        Account { open_fragments: 2, open_bytes: 481, total: 2, ..Account::default() },
+        Account::of_numbers([u64::MAX; NUMBERS]),
     ];
     for account in unsound {
         let mut room = [0xaa; 2000];

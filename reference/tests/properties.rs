@@ -133,7 +133,7 @@ fn nothing_is_read_but_what_is_written() {
 }
 
 #[test]
-fn every_field_is_written_or_refused() {
+fn every_field_is_written_or_not_allowed() {
     for decision_index in 0..=255 {
         for vlan_index in 0..=255 {
             for (decision_match, vlan_match) in
@@ -173,15 +173,15 @@ fn allowed_controls() -> Vec<u8> {
 }
 
 #[test]
-fn sound_records_are_those_with_an_allowed_control_and_kept_bits() {
+fn sound_settings_are_those_with_an_allowed_control_and_kept_bits() {
     for control in 0..=255 {
         for kept in 0..=255 {
-            let mut record = [0x77; 15];
-            record[0] = control;
-            record[1] = kept;
+            let mut settings = [0x77; 15];
+            settings[0] = control;
+            settings[1] = kept;
             let kept_bits: &[u8] = if control < 128 { &[0, 1, 2, 3] } else { &[1, 3] };
             let expected = allowed_controls().contains(&control) && kept_bits.contains(&kept);
-            assert_eq!(is_sound(&record), expected, "{control:#x} {kept}");
+            assert_eq!(is_sound(&settings), expected, "{control:#x} {kept}");
         }
     }
 }
@@ -200,8 +200,8 @@ fn commands() -> Vec<Vec<u8>> {
     commands
 }
 
-/// The record left by a list of commands, found by searching the list.
-fn record_by_search(list: &[Vec<u8>]) -> [u8; 15] {
+/// The settings left by a list of commands, found by searching the list.
+fn settings_by_search(list: &[Vec<u8>]) -> [u8; 15] {
     let allowed = |data: &[u8]| {
         (data.len() == 1 || data.len() == 14) && allowed_controls().contains(&data[0])
     };
@@ -214,20 +214,20 @@ fn record_by_search(list: &[Vec<u8>]) -> [u8; 15] {
         allowed(data) && (data[0] < 128 || data.len() == 14 || last_mac(place).is_some())
     });
 
-    let mut record = [0; 15];
-    record[0] = last_taken.map_or(0x40, |place| list[place][0]);
+    let mut settings = [0; 15];
+    settings[0] = last_taken.map_or(0x40, |place| list[place][0]);
     if let Some(data) = last_mac(list.len()) {
-        record[1] += 1;
-        record[2..8].copy_from_slice(&data[1..7]);
+        settings[1] += 1;
+        settings[2..8].copy_from_slice(&data[1..7]);
     }
     if let Some(data) = last_address {
-        record[1] += 2;
-        record[8..12].copy_from_slice(&data[7..11]);
+        settings[1] += 2;
+        settings[8..12].copy_from_slice(&data[7..11]);
     }
     if let Some(data) = long_forms(list.len()).next() {
-        record[12..15].copy_from_slice(&data[11..14]);
+        settings[12..15].copy_from_slice(&data[11..14]);
     }
-    record
+    settings
 }
 
 #[test]
@@ -246,7 +246,7 @@ fn settings_are_those_found_in_the_list() {
                     if answer != 11 {
                         assert_eq!(lent, before, "{list:x?}");
                     }
-                    assert_eq!(lent[..15], record_by_search(&list[..=place]), "{list:x?}");
+                    assert_eq!(lent[..15], settings_by_search(&list[..=place]), "{list:x?}");
                     assert_eq!(lent[15..], [0x99; 3]);
                     assert!(is_sound(&lent));
                 }
@@ -256,24 +256,24 @@ fn settings_are_those_found_in_the_list() {
 }
 
 #[test]
-fn refused_records_are_left_alone() {
+fn settings_that_are_not_sound_are_left_alone() {
     for length in 0..20 {
         for control in 0..=255 {
             for kept in 0..6 {
-                let mut record = vec![0x33; length];
-                for (byte, value) in record.iter_mut().zip([control, kept]) {
+                let mut settings = vec![0x33; length];
+                for (byte, value) in settings.iter_mut().zip([control, kept]) {
                     *byte = value;
                 }
-                let before = record.clone();
-                let sound = is_sound(&record);
-                let answer = receive_enable(&mut record, &[0xc9; 14]);
+                let before = settings.clone();
+                let sound = is_sound(&settings);
+                let answer = receive_enable(&mut settings, &[0xc9; 14]);
                 match answer {
                     12 => assert!(length < 15),
                     13 => assert!(length >= 15 && !sound),
                     _ => assert!(answer == 11 && sound),
                 }
                 if answer != 11 {
-                    assert_eq!(record, before);
+                    assert_eq!(settings, before);
                 }
             }
         }
@@ -282,21 +282,21 @@ fn refused_records_are_left_alone() {
 
 #[test]
 fn addresses_are_parts_of_the_buffer_they_come_from() {
-    let record: [u8; 16] = std::array::from_fn(|place| 100 + place as u8);
+    let settings: [u8; 16] = std::array::from_fn(|place| 100 + place as u8);
     let flash: [u8; 11] = std::array::from_fn(|place| 200 + place as u8);
     for control in allowed_controls() {
         for kept in 0..4 {
-            let mut record = record;
-            record[0] = control;
-            record[1] = kept;
-            let mac = mac_in_force(&record, &flash).part();
-            let ipv4 = ipv4_in_force(&record, &flash).part();
+            let mut settings = settings;
+            settings[0] = control;
+            settings[1] = kept;
+            let mac = mac_in_force(&settings, &flash).part();
+            let ipv4 = ipv4_in_force(&settings, &flash).part();
             if control >= 128 && kept % 2 == 0 {
                 assert!(mac.is_empty() && ipv4.is_empty());
                 continue;
             }
-            let first_of_mac = if control >= 128 { &record[2] } else { &flash[0] };
-            let first_of_ipv4 = if kept >= 2 { &record[8] } else { &flash[6] };
+            let first_of_mac = if control >= 128 { &settings[2] } else { &flash[0] };
+            let first_of_ipv4 = if kept >= 2 { &settings[8] } else { &flash[6] };
             assert_eq!(mac.len(), 6);
             assert_eq!(ipv4.len(), 4);
             assert!(std::ptr::eq(&mac[0], first_of_mac));

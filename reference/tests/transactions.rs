@@ -1,15 +1,11 @@
 //! Transactions: the worked examples, and the translator against the history.
 
-#[allow(dead_code)]
-#[path = "../src/random.rs"]
-mod random;
-
-use random::Random;
-use reference::account::{
-    fresh, is_sound, Account, Fate, BYTES, FRAGMENTS, HIGHEST_TOTAL, NUMBERS, PACKETS, ROWS,
-};
+use reference::account::{self, Account, Fate, BYTES, FRAGMENTS, HIGHEST_TOTAL, PACKETS, ROWS};
 use reference::history::{History, Place, Transaction};
 use reference::packet::{append, fill, shown};
+use reference::printout::{print, ENOUGH_ROOM};
+use reference::random::Random;
+use reference::state::{self, fresh, State, NUMBERS};
 use reference::translator::transact;
 
 /// Command, number of data bytes, link up.
@@ -20,25 +16,25 @@ const DOWN: bool = false;
 
 /// Everything that a transaction may change.
 #[derive(Clone, Debug, PartialEq, Eq)]
-struct State {
-    account: Account,
+struct Kept {
+    state: State,
     store: Vec<u8>,
     settings: Vec<u8>,
 }
 
-impl State {
-    fn fresh(maximum: u32) -> State {
-        let (answer, account) = fresh(maximum);
+impl Kept {
+    fn fresh(maximum: u32) -> Kept {
+        let (answer, state) = fresh(maximum);
         assert_eq!(answer, 0);
         let mut settings = vec![0xee; 17];
         assert_eq!(reference::settings::fresh(&mut settings), 0);
-        State { account, store: vec![0xdd; 1540], settings }
+        Kept { state, store: vec![0xdd; 1540], settings }
     }
 
     fn transact(&mut self, transaction: &Transaction) -> (u8, u16) {
         let Transaction { command, data, link_up } = transaction;
-        let State { account, store, settings } = self;
-        transact(account, store, settings, *command, data, *link_up)
+        let Kept { state, store, settings } = self;
+        transact(state, store, settings, *command, data, *link_up)
     }
 
     /// Does a transaction of so many bytes, and gives its answer.
@@ -51,13 +47,13 @@ fn data(bytes: usize) -> Vec<u8> {
     (0..bytes).map(|place| 1 + (place % 251) as u8).collect()
 }
 
-fn answers(maximum: u32, list: &[Send]) -> (Vec<u8>, State) {
-    let mut state = State::fresh(maximum);
+fn answers(maximum: u32, list: &[Send]) -> (Vec<u8>, Kept) {
+    let mut kept = Kept::fresh(maximum);
     let answers = list
         .iter()
-        .map(|(command, bytes, link_up)| state.send(*command, *bytes, *link_up))
+        .map(|(command, bytes, link_up)| kept.send(*command, *bytes, *link_up))
         .collect();
-    (answers, state)
+    (answers, kept)
 }
 
 #[test]
@@ -90,61 +86,61 @@ fn marked_examples() {
 
 #[test]
 fn sent_lengths_and_bytes() {
-    let mut state = State::fresh(240);
+    let mut kept = Kept::fresh(240);
     let whole = Transaction { command: 0xc4, data: data(17), link_up: true };
-    assert_eq!(state.transact(&whole), (1, 64));
-    assert_eq!(shown(&state.store, 64), [&data(17)[..], &[0; 47]].concat());
-    assert_eq!(state.store[64..], [0xdd; 1476]);
+    assert_eq!(kept.transact(&whole), (1, 64));
+    assert_eq!(shown(&kept.store, 64), [&data(17)[..], &[0; 47]].concat());
+    assert_eq!(kept.store[64..], [0xdd; 1476]);
 
     let whole = Transaction { data: data(65), ..whole };
-    assert_eq!(state.transact(&whole), (1, 65));
-    assert_eq!(shown(&state.store, 65), data(65));
+    assert_eq!(kept.transact(&whole), (1, 65));
+    assert_eq!(shown(&kept.store, 65), data(65));
 
     let mut packet = Vec::new();
     for (command, bytes) in
         [(0x84, 240), (0x04, 240), (0x04, 240), (0x04, 240), (0x04, 240), (0x04, 240)]
     {
         packet.extend(data(bytes));
-        assert_eq!(state.send(command, bytes, true), 0);
+        assert_eq!(kept.send(command, bytes, true), 0);
     }
     packet.extend(data(96));
     let last = Transaction { command: 0x44, data: data(96), link_up: true };
-    assert_eq!(state.transact(&last), (1, 1536));
-    assert_eq!(shown(&state.store, 1536), packet);
-    assert_eq!(state.store[1536..], [0xdd; 4]);
+    assert_eq!(kept.transact(&last), (1, 1536));
+    assert_eq!(shown(&kept.store, 1536), packet);
+    assert_eq!(kept.store[1536..], [0xdd; 4]);
 }
 
 #[test]
 fn discarded_packets_get_no_fill_and_no_bytes_past_the_longest() {
     for (bytes, link_up, answer) in [(16, true, 5), (17, false, 6), (16, false, 5)] {
-        let mut state = State::fresh(240);
-        assert_eq!(state.send(0xc4, bytes, link_up), answer);
-        assert_eq!(state.store[..bytes], data(bytes));
-        assert!(state.store[bytes..].iter().all(|byte| *byte == 0xdd));
+        let mut kept = Kept::fresh(240);
+        assert_eq!(kept.send(0xc4, bytes, link_up), answer);
+        assert_eq!(kept.store[..bytes], data(bytes));
+        assert!(kept.store[bytes..].iter().all(|byte| *byte == 0xdd));
     }
-    let mut state = State::fresh(240);
+    let mut kept = Kept::fresh(240);
     let first = [(0x84, 240), (0x04, 240), (0x04, 240), (0x04, 240), (0x04, 240), (0x04, 240)];
     for (command, bytes) in first {
-        assert_eq!(state.send(command, bytes, true), 0);
+        assert_eq!(kept.send(command, bytes, true), 0);
     }
-    let before = state.store.clone();
+    let before = kept.store.clone();
     for (command, bytes, answer) in [(0x04, 97, 0), (0x04, 1, 0), (0x44, 20, 4)] {
-        assert_eq!(state.send(command, bytes, true), answer);
-        assert_eq!(state.store, before);
+        assert_eq!(kept.send(command, bytes, true), answer);
+        assert_eq!(kept.store, before);
     }
-    assert_eq!(state.account.grid[Fate::Over as usize], [1, 9, 1558]);
+    assert_eq!(kept.state.account.grid[Fate::Over as usize], [1, 9, 1558]);
 }
 
 #[test]
 fn the_printout() {
-    let mut state = State::fresh(32);
+    let mut kept = Kept::fresh(32);
     for (command, bytes, answer) in
         [(0xc4, 20, 1), (0x84, 32, 0), (0x84, 10, 0), (0x44, 5, 5), (0x04, 3, 2)]
     {
-        assert_eq!(state.send(command, bytes, true), answer);
+        assert_eq!(kept.send(command, bytes, true), answer);
     }
     let enable = Transaction { command: 0xca, data: vec![0x41], link_up: true };
-    assert_eq!(state.transact(&enable), (11, 0));
+    assert_eq!(kept.transact(&enable), (11, 0));
     let grid = [
         [1, 1, 20],
         [1, 1, 32],
@@ -156,33 +152,36 @@ fn the_printout() {
         [0, 1, 3],
         [0, 0, 0],
     ];
-    let expected = Account { maximum: 32, grid, taken: 1, total: 6, ..Account::default() };
-    assert_eq!(state.account, expected);
+    let account = Account { grid, taken: 1, total: 6, ..Account::default() };
+    assert_eq!(kept.state, State { account, maximum: 32 });
 }
 
 #[test]
-fn fresh_accounts() {
+fn fresh_states() {
     for maximum in 0..=1000 {
-        let (answer, account) = fresh(maximum);
+        let (answer, state) = fresh(maximum);
         let allowed = (1..=240).contains(&maximum);
         assert_eq!(answer, if allowed { 0 } else { 16 }, "{maximum}");
         let expected = if allowed { u64::from(maximum) } else { 240 };
-        assert_eq!(account, Account { maximum: expected, ..Account::default() });
-        assert!(is_sound(&account));
+        assert_eq!(state, State { account: Account::default(), maximum: expected });
+        assert!(state::is_sound(&state));
     }
     assert_eq!(fresh(u32::MAX), fresh(0));
 }
 
 #[test]
-fn numbers_and_accounts_are_the_same_thing() {
+fn numbers_and_states_are_the_same_thing() {
     let numbers: [u64; NUMBERS] = std::array::from_fn(|place| 1000 + place as u64);
-    let account = Account::of_numbers(numbers);
-    assert_eq!(account.numbers(), numbers);
-    assert_eq!(account.maximum, 1000);
-    assert_eq!(account.grid[Fate::Sent as usize], [1001, 1002, 1003]);
-    assert_eq!(account.grid[Fate::BadLength as usize], [1025, 1026, 1027]);
-    assert_eq!((account.open_fragments, account.open_bytes), (1028, 1029));
-    assert_eq!((account.taken, account.refused, account.total), (1030, 1031, 1032));
+    let state = State::of_numbers(numbers);
+    assert_eq!(state.numbers(), numbers);
+    let account = state.account;
+    assert_eq!(account.grid[Fate::Sent as usize], [1000, 1001, 1002]);
+    assert_eq!(account.grid[Fate::BadLength as usize], [1024, 1025, 1026]);
+    assert_eq!((account.open_fragments, account.open_bytes), (1027, 1028));
+    assert_eq!((account.taken, account.refused, account.total), (1029, 1030, 1031));
+    assert_eq!(account.numbers(), numbers[..account::NUMBERS]);
+    assert_eq!(Account::of_numbers(account.numbers()), account);
+    assert_eq!(state.maximum, 1032);
 }
 
 #[test]
@@ -274,7 +273,7 @@ impl Controller {
 
 /// The partition, counted over the places of the list.
 fn assert_partition(account: &Account, history: History) {
-    assert!(is_sound(account));
+    assert!(account::is_sound(account));
     let in_grid: u64 = account.grid.iter().map(|row| row[FRAGMENTS]).sum();
     let beside = account.open_fragments + account.taken + account.refused;
     assert_eq!(account.total, in_grid + beside);
@@ -297,9 +296,9 @@ fn assert_partition(account: &Account, history: History) {
     assert_eq!((account.open_fragments, account.taken, account.refused), (open, taken, refused));
 }
 
-/// Makes a call that is refused, and makes sure that it changes nothing.
-fn refused_call(state: &mut State, transaction: &Transaction, kind: u64) {
-    let mut lent = state.clone();
+/// Makes a call that is rejected, and makes sure that it changes nothing.
+fn rejected_call(kept: &mut Kept, transaction: &Transaction, kind: u64) {
+    let mut lent = kept.clone();
     let answer = match kind {
         0 => {
             lent.store.truncate(1535);
@@ -310,16 +309,20 @@ fn refused_call(state: &mut State, transaction: &Transaction, kind: u64) {
             12
         }
         2 => {
-            lent.account.total += 1;
+            lent.state.account.total += 1;
             13
         }
         3 => {
+            lent.state.maximum = [0, 241, 1 << 63][transaction.data.len() % 3];
+            13
+        }
+        4 => {
             lent.settings[1] |= 4;
             13
         }
         _ => {
-            lent.account.refused += HIGHEST_TOTAL - lent.account.total;
-            lent.account.total = HIGHEST_TOTAL;
+            lent.state.account.refused += HIGHEST_TOTAL - lent.state.account.total;
+            lent.state.account.total = HIGHEST_TOTAL;
             14
         }
     };
@@ -329,10 +332,10 @@ fn refused_call(state: &mut State, transaction: &Transaction, kind: u64) {
     // What was lent is handed back in place of what was carried, as far as it
     // was not cut or damaged for this call.
     if kind != 0 {
-        state.store = lent.store;
+        kept.store = lent.store;
     }
-    if kind != 1 && kind != 3 {
-        state.settings = lent.settings;
+    if kind != 1 && kind != 4 {
+        kept.settings = lent.settings;
     }
 }
 
@@ -341,45 +344,47 @@ fn translator_and_history_agree() {
     let mut packets_of = [0; ROWS.len()];
     for seed in 0..2000 {
         let mut controller = Controller::new(seed);
-        let mut state = State::fresh(controller.maximum as u32);
+        let mut kept = Kept::fresh(controller.maximum as u32);
         let mut list: Vec<Transaction> = Vec::new();
         let length = 10 + controller.random.below(60);
         for _ in 0..length {
             let transaction = controller.transaction();
             if controller.random.one_in(12) {
-                let kind = controller.random.below(5);
-                refused_call(&mut state, &transaction, kind);
+                let kind = controller.random.below(6);
+                rejected_call(&mut kept, &transaction, kind);
             }
-            let before = state.clone();
-            let (answer, sent) = state.transact(&transaction);
+            let before = kept.clone();
+            let (answer, sent) = kept.transact(&transaction);
             list.push(transaction);
             let history =
                 History { maximum: controller.maximum as u64, mac_kept_before: false, list: &list };
-            assert_eq!(state.account, history.account(), "seed {seed}");
+            let maximum = history.maximum;
+            let state = State { account: history.account(), maximum };
+            assert_eq!(kept.state, state, "seed {seed}");
             assert_eq!((answer, u64::from(sent)), history.answer(list.len() - 1), "seed {seed}");
             if answer == 1 {
                 let run = history.sent().last().expect("a packet was sent");
                 let packet: Vec<u8> = history.packet(run).collect();
-                assert_eq!(shown(&state.store, u64::from(sent)), packet, "seed {seed}");
+                assert_eq!(shown(&kept.store, u64::from(sent)), packet, "seed {seed}");
             }
             if let Some(run) = history.open() {
                 let stored: Vec<u8> = history.stored(run).collect();
-                assert_eq!(state.store[..stored.len()], stored, "seed {seed}");
+                assert_eq!(kept.store[..stored.len()], stored, "seed {seed}");
             }
             if matches!(answer, 2 | 3 | 7..=11) {
-                assert_eq!(state.store, before.store, "seed {seed}");
+                assert_eq!(kept.store, before.store, "seed {seed}");
             }
             if answer != 11 {
-                assert_eq!(state.settings, before.settings, "seed {seed}");
+                assert_eq!(kept.settings, before.settings, "seed {seed}");
             }
-            assert_eq!(state.store[1536..], [0xdd; 4]);
-            assert_eq!(state.settings[15..], [0xee; 2]);
+            assert_eq!(kept.store[1536..], [0xdd; 4]);
+            assert_eq!(kept.settings[15..], [0xee; 2]);
         }
         let history =
             History { maximum: controller.maximum as u64, mac_kept_before: false, list: &list };
-        assert_partition(&state.account, history);
-        assert_eq!(history.sent().count() as u64, state.account.grid[0][PACKETS]);
-        for (packets, row) in packets_of.iter_mut().zip(state.account.grid) {
+        assert_partition(&kept.state.account, history);
+        assert_eq!(history.sent().count() as u64, kept.state.account.grid[0][PACKETS]);
+        for (packets, row) in packets_of.iter_mut().zip(kept.state.account.grid) {
             *packets += row[PACKETS];
         }
     }
@@ -393,11 +398,11 @@ fn translator_and_history_agree() {
 fn lines_of_other_fates_stay() {
     for seed in 0..500 {
         let mut controller = Controller::new(7000 + seed);
-        let mut state = State::fresh(controller.maximum as u32);
+        let mut kept = Kept::fresh(controller.maximum as u32);
         for _ in 0..40 {
-            let before = state.account;
-            let (answer, _) = state.transact(&controller.transaction());
-            let after = state.account;
+            let before = kept.state.account;
+            let (answer, _) = kept.transact(&controller.transaction());
+            let after = kept.state.account;
             let own: &[Fate] = match answer {
                 0 => &[Fate::Superseded],
                 1 => &[Fate::Sent, Fate::Superseded],
@@ -416,43 +421,76 @@ fn lines_of_other_fates_stay() {
             assert_eq!(after.taken - before.taken, u64::from(answer == 11));
             assert_eq!(after.refused - before.refused, u64::from((7..=10).contains(&answer)));
             assert_eq!(after.total - before.total, 1);
-            assert_eq!(after.maximum, before.maximum);
+            assert_eq!(kept.state.maximum, controller.maximum as u64);
         }
     }
+}
+
+/// The numbers of an account that make up its total.
+fn lines(account: &Account) -> impl Iterator<Item = u64> + '_ {
+    let beside = [account.open_fragments, account.taken, account.refused];
+    account.grid.iter().map(|row| row[FRAGMENTS]).chain(beside)
+}
+
+/// Soundness of an account. A sum within the limit leaves every product far
+/// below 64 bits.
+fn expected_sound(account: &Account) -> bool {
+    lines(account).try_fold(0, u64::checked_add) == Some(account.total)
+        && account.total <= HIGHEST_TOTAL
+        && account.grid.iter().all(|row| row[PACKETS] <= row[FRAGMENTS])
+        && account.grid.iter().all(|row| row[BYTES] <= 240 * row[FRAGMENTS])
+        && account.grid[7][PACKETS] == 0
+        && account.grid[8][PACKETS] == 0
+        && account.grid[8][BYTES] == 0
+        && account.open_bytes >= account.open_fragments
+        && account.open_bytes <= 240 * account.open_fragments
 }
 
 #[test]
 fn soundness_of_any_numbers() {
     let mut random = Random::new(99);
     let extremes = [0, 1, 239, 240, 241, HIGHEST_TOTAL, 1 << 32, 1 << 63, u64::MAX - 1, u64::MAX];
-    let mut sound = 0;
+    let (mut sound_accounts, mut sound_states) = (0, 0);
     for _ in 0..100_000 {
         let numbers =
             std::array::from_fn(|_| if random.one_in(9) { random.pick(&extremes) } else { 0 });
-        let mut account = Account::of_numbers(numbers);
-        account.maximum = random.pick(&[0, 1, 100, 240, 240, 241]);
-        let lines = account.grid.iter().map(|row| row[FRAGMENTS]).chain([
-            account.open_fragments,
-            account.taken,
-            account.refused,
-        ]);
+        let mut state = State::of_numbers(numbers);
+        state.maximum = random.pick(&[0, 1, 100, 240, 240, 241, 1 << 63]);
         // Nearly all totals are right but for what is past 64 bits.
         if !random.one_in(8) {
-            account.total = lines.clone().fold(0, u64::wrapping_add);
+            state.account.total = lines(&state.account).fold(0, u64::wrapping_add);
         }
-        // A sum within the limit leaves every product far below 64 bits.
-        let expected = lines.clone().try_fold(0, u64::checked_add) == Some(account.total)
-            && account.total <= HIGHEST_TOTAL
-            && (1..=240).contains(&account.maximum)
-            && account.grid.iter().all(|row| row[PACKETS] <= row[FRAGMENTS])
-            && account.grid.iter().all(|row| row[BYTES] <= 240 * row[FRAGMENTS])
-            && account.grid[7][PACKETS] == 0
-            && account.grid[8][PACKETS] == 0
-            && account.grid[8][BYTES] == 0
-            && account.open_bytes >= account.open_fragments
-            && account.open_bytes <= account.maximum * account.open_fragments;
-        assert_eq!(is_sound(&account), expected, "{account:?}");
-        sound += u64::from(expected);
+        let State { account, maximum } = state;
+        let account_sound = expected_sound(&account);
+        let state_sound = account_sound
+            && (1..=240).contains(&maximum)
+            && account.open_bytes <= maximum * account.open_fragments;
+        assert_eq!(account::is_sound(&account), account_sound, "{account:?}");
+        assert_eq!(state::is_sound(&state), state_sound, "{state:?}");
+        sound_accounts += u64::from(account_sound);
+        sound_states += u64::from(state_sound);
     }
-    assert!(sound > 1000, "{sound}");
+    assert!(sound_states > 1000 && sound_accounts > sound_states + 300, "{sound_states}");
+}
+
+/// Bytes of an open packet between what the maximum and what any fragment
+/// allows: rejected as a state, printed as an account.
+#[test]
+fn an_account_is_sound_whatever_the_maximum() {
+    for maximum in 1..=240 {
+        for (open_bytes, sound, printed) in [
+            (3 * maximum, true, true),
+            (3 * maximum + 1, false, maximum < 240),
+            (720, maximum == 240, true),
+            (721, false, false),
+        ] {
+            let account = Account { open_fragments: 3, open_bytes, total: 3, ..Account::default() };
+            let mut kept = Kept::fresh(240);
+            kept.state = State { account, maximum };
+            let answer = kept.send(0x44, 1, true);
+            assert_eq!(answer != 13, sound, "{maximum} {open_bytes}");
+            let length = print(&account, &mut [0; ENOUGH_ROOM]);
+            assert_eq!(length > 0, printed, "{maximum} {open_bytes}");
+        }
+    }
 }

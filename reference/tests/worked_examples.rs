@@ -1,7 +1,7 @@
 //! The worked examples, and one example of each answer.
 
 use reference::answer_numbers::{
-    ABORTED, ACCOUNT_FULL, CONTROL_NOT_ALLOWED, DONE, FRAGMENT_LENGTH, LINK_DOWN,
+    ABORTED, ACCOUNT_FULL, CONTROL_NOT_ALLOWED, DONE, FRAGMENT_LENGTH, JOINED, LINK_DOWN,
     MAXIMUM_NOT_ALLOWED, NOT_SOUND, NO_MAC_KEPT, PACKET_SENT, PACKET_TOO_LONG, PACKET_TOO_SHORT,
     RECEIVE_ENABLE_LENGTH, RECEIVE_ENABLE_TAKEN, STATUS_NOT_ALLOWED, TOO_SHORT, UNKNOWN_COMMAND,
 };
@@ -14,14 +14,15 @@ use reference::status::{read, write, StatusData};
 const FLASH: [u8; 10] = [0x00, 0xa0, 0xc9, 1, 2, 3, 203, 0, 113, 9];
 const LONG: [u8; 14] = [0xc9, 2, 3, 4, 5, 6, 7, 8, 9, 10, 11, 12, 13, 14];
 
-fn fresh_record() -> [u8; 15] {
-    let mut record = [0xee; 15];
-    assert_eq!(fresh(&mut record), DONE);
-    record
+fn made_fresh() -> [u8; 15] {
+    let mut settings = [0xee; 15];
+    assert_eq!(fresh(&mut settings), DONE);
+    settings
 }
 
 #[test]
 fn answer_numbers() {
+    assert_eq!(JOINED, 0);
     assert_eq!(DONE, 0);
     assert_eq!(PACKET_SENT, 1);
     assert_eq!(ABORTED, 2);
@@ -104,7 +105,7 @@ fn status_data() {
 }
 
 #[test]
-fn status_data_refused() {
+fn status_data_not_allowed() {
     assert_eq!(write(&StatusData { length: 1537, ..Default::default() }), (15, [0; 8]));
     assert_eq!(read(&[0; 8]), (15, StatusData::default()));
     assert_eq!(read(&[0x40, 0, 1, 0, 0, 0, 0]), (15, StatusData::default()));
@@ -112,61 +113,61 @@ fn status_data_refused() {
 
 #[test]
 fn fresh_settings() {
-    let mut record = [0xee; 17];
-    assert_eq!(fresh(&mut record), 0);
-    assert_eq!(record, [0x40, 0, 0, 0, 0, 0, 0, 0, 0, 0, 0, 0, 0, 0, 0, 0xee, 0xee]);
-    assert!(is_sound(&record));
+    let mut settings = [0xee; 17];
+    assert_eq!(fresh(&mut settings), 0);
+    assert_eq!(settings, [0x40, 0, 0, 0, 0, 0, 0, 0, 0, 0, 0, 0, 0, 0, 0, 0xee, 0xee]);
+    assert!(is_sound(&settings));
     let mut short = [0xee; 14];
     assert_eq!(fresh(&mut short), 12);
     assert_eq!(short, [0xee; 14]);
 }
 
 #[test]
-fn receive_enable_refused() {
-    let mut unsound = fresh_record();
+fn receive_enable_refused_or_rejected() {
+    let mut unsound = made_fresh();
     unsound[1] = 4;
     let examples: [(&[u8], &[u8], u8); 5] = [
-        (&fresh_record()[..14], &[0x41], 12),
+        (&made_fresh()[..14], &[0x41], 12),
         (&unsound, &[0x41], 13),
-        (&fresh_record(), &[0x41, 0x41], 8),
-        (&fresh_record(), &[0x71], 9),
-        (&fresh_record(), &[0xc1], 10),
+        (&made_fresh(), &[0x41, 0x41], 8),
+        (&made_fresh(), &[0x71], 9),
+        (&made_fresh(), &[0xc1], 10),
     ];
     for (before, data, answer) in examples {
-        let mut record = before.to_vec();
-        assert_eq!(receive_enable(&mut record, data), answer);
-        assert_eq!(record, before);
+        let mut settings = before.to_vec();
+        assert_eq!(receive_enable(&mut settings, data), answer);
+        assert_eq!(settings, before);
     }
 }
 
 #[test]
 fn receive_enable_taken() {
-    let mut record = fresh_record();
-    assert_eq!(receive_enable(&mut record, &[0x41]), 11);
-    assert_eq!(record, [0x41, 0, 0, 0, 0, 0, 0, 0, 0, 0, 0, 0, 0, 0, 0]);
-    assert_eq!(receive_enable(&mut record, &LONG), 11);
-    assert_eq!(record, [0xc9, 3, 2, 3, 4, 5, 6, 7, 8, 9, 10, 11, 12, 13, 14]);
-    assert_eq!(receive_enable(&mut record, &[0x40]), 11);
-    assert_eq!(record, [0x40, 3, 2, 3, 4, 5, 6, 7, 8, 9, 10, 11, 12, 13, 14]);
-    assert_eq!(receive_enable(&mut record, &[0xc1]), 11);
-    assert_eq!(record, [0xc1, 3, 2, 3, 4, 5, 6, 7, 8, 9, 10, 11, 12, 13, 14]);
+    let mut settings = made_fresh();
+    assert_eq!(receive_enable(&mut settings, &[0x41]), 11);
+    assert_eq!(settings, [0x41, 0, 0, 0, 0, 0, 0, 0, 0, 0, 0, 0, 0, 0, 0]);
+    assert_eq!(receive_enable(&mut settings, &LONG), 11);
+    assert_eq!(settings, [0xc9, 3, 2, 3, 4, 5, 6, 7, 8, 9, 10, 11, 12, 13, 14]);
+    assert_eq!(receive_enable(&mut settings, &[0x40]), 11);
+    assert_eq!(settings, [0x40, 3, 2, 3, 4, 5, 6, 7, 8, 9, 10, 11, 12, 13, 14]);
+    assert_eq!(receive_enable(&mut settings, &[0xc1]), 11);
+    assert_eq!(settings, [0xc1, 3, 2, 3, 4, 5, 6, 7, 8, 9, 10, 11, 12, 13, 14]);
 }
 
 #[test]
 fn addresses_in_force() {
-    let mut record = fresh_record();
-    assert_eq!(mac_in_force(&record, &FLASH), AddressInForce::Flash(&FLASH[..6]));
-    assert_eq!(ipv4_in_force(&record, &FLASH), AddressInForce::Flash(&FLASH[6..]));
+    let mut settings = made_fresh();
+    assert_eq!(mac_in_force(&settings, &FLASH), AddressInForce::Flash(&FLASH[..6]));
+    assert_eq!(ipv4_in_force(&settings, &FLASH), AddressInForce::Flash(&FLASH[6..]));
 
-    receive_enable(&mut record, &LONG);
-    assert_eq!(mac_in_force(&record, &FLASH), AddressInForce::Record(&[2, 3, 4, 5, 6, 7]));
-    assert_eq!(ipv4_in_force(&record, &FLASH), AddressInForce::Record(&[8, 9, 10, 11]));
+    receive_enable(&mut settings, &LONG);
+    assert_eq!(mac_in_force(&settings, &FLASH), AddressInForce::Settings(&[2, 3, 4, 5, 6, 7]));
+    assert_eq!(ipv4_in_force(&settings, &FLASH), AddressInForce::Settings(&[8, 9, 10, 11]));
 
-    receive_enable(&mut record, &[0x41]);
-    assert_eq!(mac_in_force(&record, &FLASH), AddressInForce::Flash(&FLASH[..6]));
-    assert_eq!(ipv4_in_force(&record, &FLASH), AddressInForce::Record(&[8, 9, 10, 11]));
+    receive_enable(&mut settings, &[0x41]);
+    assert_eq!(mac_in_force(&settings, &FLASH), AddressInForce::Flash(&FLASH[..6]));
+    assert_eq!(ipv4_in_force(&settings, &FLASH), AddressInForce::Settings(&[8, 9, 10, 11]));
 
-    assert_eq!(mac_in_force(&record, &FLASH[..9]), AddressInForce::Nowhere);
-    assert_eq!(ipv4_in_force(&record, &FLASH[..9]).part(), &[0; 0]);
-    assert_eq!(ipv4_in_force(&record[..14], &FLASH), AddressInForce::Nowhere);
+    assert_eq!(mac_in_force(&settings, &FLASH[..9]), AddressInForce::Nowhere);
+    assert_eq!(ipv4_in_force(&settings, &FLASH[..9]).part(), &[0; 0]);
+    assert_eq!(ipv4_in_force(&settings[..14], &FLASH), AddressInForce::Nowhere);
 }

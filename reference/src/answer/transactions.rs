@@ -1,13 +1,14 @@
-//! Answers cases of the store, the account and transactions.
+//! Answers cases of the store, the account, the state and transactions.
 
-use reference::account::{self, Account, NUMBERS};
+use reference::account::{self, Account};
 use reference::history::Transaction;
 use reference::packet;
+use reference::state::{self, State};
 
 use super::carried::Carried;
 use super::{digest, Stopped};
 use crate::pattern::pattern;
-use crate::text::{Fields, Line, NotACase};
+use crate::text::{bytes_of, Fields, Line, NotACase};
 
 /// The largest store that is carried, and the most data made by a pattern.
 const MOST_BYTES: u16 = 2048;
@@ -15,7 +16,6 @@ const MOST_BYTES: u16 = 2048;
 const MOST_SETTINGS: usize = 64;
 
 const NUMBER_BYTES: usize = 8;
-const ACCOUNT_BYTES: usize = NUMBERS * NUMBER_BYTES;
 
 /// Writes a fragment into a store.
 pub fn append(mut fields: Fields) -> Result<Line, Stopped> {
@@ -44,14 +44,6 @@ pub fn shown(mut fields: Fields) -> Result<Line, Stopped> {
     Ok(part(packet::shown(&store, length)))
 }
 
-/// Makes a fresh account.
-pub fn fresh_account(mut fields: Fields) -> Result<Line, Stopped> {
-    let maximum = fields.u32()?;
-    fields.end()?;
-    let (answer, account) = account::fresh(maximum);
-    Ok(Line::answer().u8(answer).bytes(&account_bytes(&account)))
-}
-
 /// Tells whether an account is sound.
 pub fn sound_account(mut fields: Fields) -> Result<Line, Stopped> {
     let account = account(&mut fields)?;
@@ -59,17 +51,32 @@ pub fn sound_account(mut fields: Fields) -> Result<Line, Stopped> {
     Ok(Line::answer().bool(account::is_sound(&account)))
 }
 
-/// Carries an account, a store and settings from here on.
+/// Makes a fresh state.
+pub fn fresh_state(mut fields: Fields) -> Result<Line, Stopped> {
+    let maximum = fields.u32()?;
+    fields.end()?;
+    let (answer, state) = state::fresh(maximum);
+    Ok(Line::answer().u8(answer).numbers(&state.numbers()))
+}
+
+/// Tells whether a state is sound.
+pub fn sound_state(mut fields: Fields) -> Result<Line, Stopped> {
+    let state = state(&mut fields)?;
+    fields.end()?;
+    Ok(Line::answer().bool(state::is_sound(&state)))
+}
+
+/// Carries a state, a store and settings from here on.
 pub fn start(carried: &mut Carried, mut fields: Fields) -> Result<Line, Stopped> {
-    let account = account(&mut fields)?;
+    let state = state(&mut fields)?;
     let store = limited_pattern(&mut fields)?;
     let settings = fields.bytes()?;
     fields.end()?;
     if settings.len() > MOST_SETTINGS {
         return Err("settings that are too long".into());
     }
-    *carried = Carried::start(account, store, settings);
-    Ok(Line::answer().bool(account::is_sound(&account)))
+    *carried = Carried::start(state, store, settings);
+    Ok(Line::answer().bool(state::is_sound(&state)))
 }
 
 /// Does a transaction on what is carried.
@@ -90,10 +97,10 @@ pub fn send_pattern(carried: &mut Carried, mut fields: Fields) -> Result<Line, S
     transact(carried, Transaction { command, data, link_up })
 }
 
-/// Shows the account and the settings that are carried.
+/// Shows the state and the settings that are carried.
 pub fn show(carried: &Carried, fields: Fields) -> Result<Line, Stopped> {
     fields.end()?;
-    Ok(Line::answer().bytes(&account_bytes(&carried.account)).bytes(&carried.settings))
+    Ok(Line::answer().numbers(&carried.state.numbers()).bytes(&carried.settings))
 }
 
 /// Shows a part of the store that is carried.
@@ -108,7 +115,7 @@ fn transact(carried: &mut Carried, transaction: Transaction) -> Result<Line, Sto
     Ok(Line::answer()
         .u8(answer)
         .u16(sent)
-        .u32(digest(&account_bytes(&carried.account)))
+        .u32(digest(&bytes_of(&carried.state.numbers())))
         .u32(digest(&carried.store))
         .u32(digest(&carried.settings)))
 }
@@ -140,17 +147,21 @@ fn part(part: &[u8]) -> Line {
 
 /// Takes an account.
 pub fn account(fields: &mut Fields) -> Result<Account, NotACase> {
+    Ok(Account::of_numbers(numbers(fields)?))
+}
+
+fn state(fields: &mut Fields) -> Result<State, NotACase> {
+    Ok(State::of_numbers(numbers(fields)?))
+}
+
+fn numbers<const COUNT: usize>(fields: &mut Fields) -> Result<[u64; COUNT], NotACase> {
     let bytes = fields.bytes()?;
-    if bytes.len() != ACCOUNT_BYTES {
-        return Err("an account of the wrong size");
+    if bytes.len() != COUNT * NUMBER_BYTES {
+        return Err("numbers of the wrong size");
     }
-    let mut numbers = [0; NUMBERS];
+    let mut numbers = [0; COUNT];
     for (number, bytes) in numbers.iter_mut().zip(bytes.chunks(NUMBER_BYTES)) {
         *number = bytes.iter().fold(0, |number, byte| number << 8 | u64::from(*byte));
     }
-    Ok(Account::of_numbers(numbers))
-}
-
-fn account_bytes(account: &Account) -> Vec<u8> {
-    account.numbers().iter().flat_map(|number| number.to_be_bytes()).collect()
+    Ok(numbers)
 }

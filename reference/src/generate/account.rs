@@ -4,52 +4,22 @@ use super::Cases;
 use crate::random::Random;
 use crate::text::Line;
 use reference::account::{
-    self, Account, Fate, BYTES, FRAGMENTS, HIGHEST_MAXIMUM, HIGHEST_TOTAL, NUMBERS, PACKETS, ROWS,
+    Account, Fate, BYTES, FRAGMENTS, HIGHEST_TOTAL, LONGEST_FRAGMENT, NUMBERS, PACKETS, ROWS,
 };
 
 const SEED: u64 = 0x000a_cc07;
-
-const MAXIMUMS: [(u32, &str); 12] = [
-    (0, "16, the account for 240"),
-    (1, "0"),
-    (2, "0"),
-    (17, "0"),
-    (32, "0"),
-    (239, "0"),
-    (240, "0"),
-    (241, "16, the account for 240"),
-    (255, "16, the account for 240"),
-    (256, "16, the account for 240"),
-    (257, "16 and not the account for 1"),
-    (u32::MAX, "16, the account for 240"),
-];
 
 /// An account with its name.
 pub type Named = (String, Account);
 
 /// Adds the cases of this subject.
 pub fn generate(cases: &mut Cases) {
-    cases.group("Account: fresh");
-    for (maximum, answer) in MAXIMUMS {
-        cases.name(&format!("maximum {maximum}: {answer}"));
-        cases.case(Line::case("fresh-account").u32(maximum));
-    }
-    cases.group("Account: soundness, at the edges");
-    for (name, account) in sound() {
-        cases.name(&format!("{name}: sound"));
-        cases.case(sound_account(&account));
-    }
-    cases.group("Account: soundness, past the edges");
-    for (name, account) in unsound() {
-        cases.name(&format!("{name}: not sound"));
-        cases.case(sound_account(&account));
-    }
+    let case = |(name, account): Named| (name, sound_account(&account));
+    let at_edges = sound().into_iter().map(case);
+    cases.named_group("Account: soundness, at the edges", "sound", at_edges);
+    let past_edges = unsound().into_iter().map(case);
+    cases.named_group("Account: soundness, past the edges", "not sound", past_edges);
     random(cases);
-}
-
-/// The bytes of an account.
-pub fn bytes(account: &Account) -> Vec<u8> {
-    account.numbers().iter().flat_map(|number| number.to_be_bytes()).collect()
 }
 
 /// The same account with its total made right.
@@ -65,7 +35,7 @@ pub fn summed(mut account: Account) -> Account {
 /// A sound account in which every number that may differ from zero does, and
 /// no two are alike.
 pub fn busy() -> Account {
-    let mut account = Account { maximum: 100, ..Account::default() };
+    let mut account = Account::default();
     for (place, row) in account.grid.iter_mut().enumerate() {
         let place = place as u64;
         *row = [3 + place, 20 + 3 * place, 700 + 11 * place];
@@ -82,10 +52,7 @@ pub fn busy() -> Account {
 
 /// Accounts at the edges of what is sound.
 pub fn sound() -> Vec<Named> {
-    let mut all: Vec<Named> = Vec::new();
-    for maximum in [1, 32, 239, 240] {
-        all.push((format!("fresh for maximum {maximum}"), account::fresh(maximum).1));
-    }
+    let mut all = vec![("all numbers zero".to_string(), Account::default())];
     let mut add = |name: &str, change: &dyn Fn(&mut Account)| {
         let mut account = busy();
         change(&mut account);
@@ -109,29 +76,22 @@ pub fn sound() -> Vec<Named> {
         });
         add(&format!("{}: empty", row_name(fate)), &|account| account.grid[row] = [0; 3]);
     }
-    for (name, maximum, fragments, bytes) in [
-        ("none open", 100, 0, 0),
-        ("open bytes equal to open fragments", 100, 4, 4),
-        ("open bytes equal to maximum times open fragments", 100, 4, 400),
-        ("maximum 1, open bytes equal to open fragments", 1, 4, 4),
-        ("maximum 240, open bytes 240 times open fragments", 240, 4, 960),
-        ("an open packet far past 1536", 240, 1_000_000, 240_000_000),
+    for (name, fragments, bytes) in [
+        ("none open", 0, 0),
+        ("open bytes equal to open fragments", 4, 4),
+        ("open bytes 240 times open fragments", 4, 960),
+        ("an open packet far past 1536", 1_000_000, 240_000_000),
     ] {
-        add(name, &|account| {
-            account.maximum = maximum;
-            account.open_fragments = fragments;
-            account.open_bytes = bytes;
-        });
+        add(name, &|account| set_open(account, fragments, bytes));
     }
-    for maximum in [84, 239, 240] {
-        add(&format!("maximum {maximum}, 4 open fragments of 333 bytes"), &|account| {
-            account.maximum = maximum;
-        });
-    }
-    for (name, full) in full() {
-        all.push((name, full));
-    }
+    all.extend(full());
     all
+}
+
+/// Gives an account another open packet.
+pub fn set_open(account: &mut Account, fragments: u64, bytes: u64) {
+    account.open_fragments = fragments;
+    account.open_bytes = bytes;
 }
 
 /// Sound accounts whose total is the highest, each with another line that
@@ -215,26 +175,13 @@ fn single(all: &mut Vec<Named>) {
         let row = &mut account.grid[Fate::BadLength as usize];
         row[BYTES] = row[FRAGMENTS];
     });
-    for (name, maximum, fragments, bytes) in [
-        ("maximum 0", 0, 4, 333),
-        ("maximum 0, none open", 0, 0, 0),
-        ("maximum 241", 241, 4, 333),
-        ("maximum 241, none open", 241, 0, 0),
-        ("maximum 256, none open", 256, 0, 0),
-        ("maximum 2 to the power of 32 and 32, none open", 0x1_0000_0020, 0, 0),
-        ("maximum 1 with 4 open fragments of 5 bytes", 1, 4, 5),
-        ("maximum 83 with 4 open fragments of 333 bytes", 83, 4, 333),
-        ("open bytes one below open fragments", 100, 4, 3),
-        ("open fragments and no open byte", 100, 4, 0),
-        ("open bytes one above maximum times open fragments", 100, 4, 401),
-        ("maximum 240, open bytes one above 240 times open fragments", 240, 4, 961),
-        ("an open byte and no open fragment", 100, 0, 1),
+    for (name, fragments, bytes) in [
+        ("open bytes one below open fragments", 4, 3),
+        ("open fragments and no open byte", 4, 0),
+        ("open bytes one above 240 times open fragments", 4, 961),
+        ("an open byte and no open fragment", 0, 1),
     ] {
-        add(name, true, &|account| {
-            account.maximum = maximum;
-            account.open_fragments = fragments;
-            account.open_bytes = bytes;
-        });
+        add(name, true, &|account| set_open(account, fragments, bytes));
     }
 }
 
@@ -248,7 +195,7 @@ fn wide(all: &mut Vec<Named>) {
         all.push((format!("{name}, one above the limit"), above));
     }
     let mut add = |name: String, change: &dyn Fn(&mut Account)| {
-        let mut account = account::fresh(240).1;
+        let mut account = Account::default();
         change(&mut account);
         all.push((name, summed(account)));
     };
@@ -272,8 +219,7 @@ fn wide(all: &mut Vec<Named>) {
         account.refused = HALF;
     });
     add("2 to the power of 63 open and refused, total 0".to_string(), &|account| {
-        account.open_fragments = HALF;
-        account.open_bytes = HALF;
+        set_open(account, HALF, HALF);
         account.refused = HALF;
     });
     add("the highest number taken, 1 refused, total 0".to_string(), &|account| {
@@ -294,33 +240,29 @@ fn wide(all: &mut Vec<Named>) {
     add(
         "open fragments whose bytes are 240 times as many, cut to 64 bits".to_string(),
         &|account| {
-            account.open_fragments = u64::MAX / 240 + 1;
-            account.open_bytes = (u64::MAX / 240 + 1).wrapping_mul(240);
+            let fragments = u64::MAX / 240 + 1;
+            set_open(account, fragments, fragments.wrapping_mul(240));
         },
     );
     add("bytes the highest number, 10 fragments sent".to_string(), &|account| {
         account.grid[0] = [1, 10, u64::MAX];
     });
     add("open bytes the highest number, 10 open fragments".to_string(), &|account| {
-        account.open_fragments = 10;
-        account.open_bytes = u64::MAX;
+        set_open(account, 10, u64::MAX);
     });
     all.push(("all numbers the highest".to_string(), Account::of_numbers([u64::MAX; NUMBERS])));
-    all.push(("all numbers zero".to_string(), Account::default()));
     for place in 0..NUMBERS {
         let mut numbers = busy().numbers();
         numbers[place] = u64::MAX;
         let name = format!("number {place}, counted from 0, the highest");
         all.push((name, Account::of_numbers(numbers)));
     }
-    for place in 0..NUMBERS {
-        let mut numbers = account::fresh(240).1.numbers();
+    // The last number is the total, which is made right.
+    for place in 0..NUMBERS - 1 {
+        let mut numbers = [0; NUMBERS];
         numbers[place] = u64::MAX;
-        let name = format!("fresh but for number {place}, the highest, total cut to 64 bits");
-        let account = summed(Account::of_numbers(numbers));
-        if place != NUMBERS - 1 {
-            all.push((name, account));
-        }
+        let name = format!("zeros but for number {place}, the highest, total cut to 64 bits");
+        all.push((name, summed(Account::of_numbers(numbers))));
     }
 }
 
@@ -333,43 +275,48 @@ fn random(cases: &mut Cases) {
     }
     cases.group("Account: random ones that are sound");
     for _ in 0..40 {
-        cases.case(sound_account(&random_sound(&mut random)));
+        cases.case(sound_account(&random_sound(&mut random, LONGEST_FRAGMENT)));
     }
     cases.group("Account: random ones that are sound, then one number changed by one");
     for _ in 0..160 {
-        let mut numbers = random_sound(&mut random).numbers();
-        let place = random.below(NUMBERS as u64) as usize;
-        let by = if random.one_in(2) { 1 } else { u64::MAX };
-        numbers[place] = numbers[place].wrapping_add(by);
-        cases.case(sound_account(&Account::of_numbers(numbers)));
+        cases.case(sound_account(&random_changed(&mut random)));
     }
     cases.group("Account: the same, the total made right again");
     for _ in 0..80 {
-        let mut numbers = random_sound(&mut random).numbers();
-        let place = random.below(NUMBERS as u64) as usize;
-        let by = if random.one_in(2) { 1 } else { u64::MAX };
-        numbers[place] = numbers[place].wrapping_add(by);
-        cases.case(sound_account(&summed(Account::of_numbers(numbers))));
+        cases.case(sound_account(&summed(random_changed(&mut random))));
     }
 }
 
-/// A sound account whose numbers lie at their ends as often as between.
-pub fn random_sound(random: &mut Random) -> Account {
-    let mut account = account::fresh(1 + random.below(HIGHEST_MAXIMUM) as u32).1;
+/// A sound account with one number changed by one.
+fn random_changed(random: &mut Random) -> Account {
+    let mut numbers = random_sound(random, LONGEST_FRAGMENT).numbers();
+    change_by_one(random, &mut numbers);
+    Account::of_numbers(numbers)
+}
+
+/// Adds one to a random number, or takes one away.
+pub fn change_by_one(random: &mut Random, numbers: &mut [u64]) {
+    let number = &mut numbers[random.below(numbers.len() as u64) as usize];
+    *number = number.wrapping_add(if random.one_in(2) { 1 } else { u64::MAX });
+}
+
+/// A sound account whose numbers lie at their ends as often as between, its
+/// open packet one for a fragment maximum.
+pub fn random_sound(random: &mut Random, maximum: u64) -> Account {
+    let mut account = Account::default();
     for fate in ROWS {
         let fragments = random.below(1000);
         let row = &mut account.grid[fate as usize];
         row[FRAGMENTS] = fragments;
         if fate != Fate::Aborted && fate != Fate::BadLength {
-            row[PACKETS] = between(random, 0, fragments);
+            row[PACKETS] = random.between(0, fragments);
         }
         if fate != Fate::BadLength {
-            row[BYTES] = between(random, 0, HIGHEST_MAXIMUM * fragments);
+            row[BYTES] = random.between(0, LONGEST_FRAGMENT * fragments);
         }
     }
-    account.open_fragments = random.pick(&[0, 0, 1, 2, 7]);
-    let most = account.maximum * account.open_fragments;
-    account.open_bytes = between(random, account.open_fragments, most);
+    let open = random.pick(&[0, 0, 1, 2, 7]);
+    set_open(&mut account, open, random.between(open, maximum * open));
     account.taken = random.below(1000);
     account.refused = random.below(1000);
     summed(account)
@@ -380,14 +327,6 @@ fn row_name(fate: Fate) -> String {
     format!("{fate:?}").to_lowercase()
 }
 
-fn between(random: &mut Random, least: u64, most: u64) -> u64 {
-    match random.below(4) {
-        0 => least,
-        1 => most,
-        _ => least + random.below(most - least + 1),
-    }
-}
-
 fn sound_account(account: &Account) -> Line {
-    Line::case("sound-account").bytes(&bytes(account))
+    Line::case("sound-account").numbers(&account.numbers())
 }

@@ -22,7 +22,7 @@ pub struct Controller {
 pub struct Drawn {
     /// Its command byte.
     pub command: u8,
-    /// Whether the link is up at that moment.
+    /// The link, up or down, as the transaction ends.
     pub link_up: bool,
     /// Its data bytes.
     pub data: Data,

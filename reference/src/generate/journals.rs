@@ -144,7 +144,7 @@ fn named(cases: &mut Cases, name: &str, journal: &[u8], outcome: &str) {
     cases.case(case(1, journal));
 }
 
-/// The journal whose printout document 01 shows.
+/// The journal whose printout is the worked example.
 fn example() -> Vec<u8> {
     let mut journal = Journal::new(32);
     for (command, size) in [(0xc4, 20), (0x84, 32), (0x84, 10), (0x44, 5), (0x04, 3)] {

@@ -1,11 +1,12 @@
 //! Long random lists of transactions.
 
-use super::account::{full, random_sound, unsound};
 use super::controller::{Controller, Data, Drawn};
-use super::transactions::{packet, send, send_pattern, show, start, FRESH_SETTINGS, STORE_BYTES};
+use super::state::{full, random_sound, unsound, Named};
+use super::transactions::{packet, send, send_pattern, show, start, STORE_BYTES};
 use super::Cases;
 use crate::random::Random;
-use reference::account::{fresh, Account};
+use reference::settings::FRESH_SETTINGS;
+use reference::state::fresh;
 
 const SEED: u64 = 0x0011_5757;
 
@@ -31,13 +32,13 @@ pub fn generate(cases: &mut Cases) {
     }
     let mut random = Random::new(SEED);
     for number in 1..=12 {
-        cases.group(&format!("Lists: random list {number} from a random sound account"));
-        let account = random_sound(&mut random);
+        cases.group(&format!("Lists: random list {number} from a random sound state"));
+        let state = random_sound(&mut random);
         let mut settings = random.bytes(15 + number % 3);
         settings[0] = random.pick(&[0x40, 0x41, 0x49, 0x51, 0x69]);
         settings[1] = random.below(4) as u8;
-        cases.case(start(&account, STORE_BYTES, &settings));
-        random_list(cases, random.u64(), account.maximum, USUAL_CALM, 60);
+        cases.case(start(&state, STORE_BYTES, &settings));
+        random_list(cases, random.u64(), state.maximum, USUAL_CALM, 60);
     }
     nothing_changes(cases, &mut random);
 }
@@ -45,20 +46,20 @@ pub fn generate(cases: &mut Cases) {
 fn nothing_changes(cases: &mut Cases, random: &mut Random) {
     let unsound = unsound();
     let full = full();
-    let pick = |random: &mut Random, accounts: &[(String, Account)]| {
-        accounts[random.below(accounts.len() as u64) as usize].clone()
+    let pick = |random: &mut Random, states: &[Named]| {
+        states[random.below(states.len() as u64) as usize].clone()
     };
     for _ in 0..4 {
-        let (name, account) = pick(random, &unsound);
-        cases.group(&format!("Lists: account not sound, {name}: nothing changes"));
-        cases.case(start(&account, STORE_BYTES, &FRESH_SETTINGS));
-        random_list(cases, random.u64(), account.maximum.clamp(1, 240), USUAL_CALM, 30);
+        let (name, state) = pick(random, &unsound);
+        cases.group(&format!("Lists: state not sound, {name}: nothing changes"));
+        cases.case(start(&state, STORE_BYTES, &FRESH_SETTINGS));
+        random_list(cases, random.u64(), state.maximum.clamp(1, 240), USUAL_CALM, 30);
     }
     for _ in 0..4 {
-        let (name, account) = pick(random, &full);
+        let (name, state) = pick(random, &full);
         cases.group(&format!("Lists: {name}: nothing changes"));
-        cases.case(start(&account, STORE_BYTES, &FRESH_SETTINGS));
-        random_list(cases, random.u64(), account.maximum, USUAL_CALM, 30);
+        cases.case(start(&state, STORE_BYTES, &FRESH_SETTINGS));
+        random_list(cases, random.u64(), state.maximum, USUAL_CALM, 30);
     }
     cases.group("Lists: store of 1535 bytes: nothing changes");
     cases.case(start(&fresh(32).1, STORE_BYTES - 1, &FRESH_SETTINGS));

@@ -1,10 +1,12 @@
 //! Cases of accounts that are printed.
 
-use super::account::{self, busy, random_sound, summed};
-use super::Cases;
+use super::account::{self, busy, random_sound, set_open, summed};
+use super::{state, Cases};
 use crate::random::Random;
 use crate::text::Line;
-use reference::account::{fresh, Account, Fate, BYTES, HIGHEST_TOTAL, PACKETS, ROWS};
+use reference::account::{
+    is_sound, Account, Fate, BYTES, HIGHEST_TOTAL, LONGEST_FRAGMENT, PACKETS, ROWS,
+};
 use reference::printout::{print, ENOUGH_ROOM};
 
 const SEED: u64 = 0x0097_1277;
@@ -24,11 +26,16 @@ pub fn generate(cases: &mut Cases) {
         around(cases, &name, &account);
     }
     rooms(cases);
-    cases.group("Printouts: accounts that are not sound, in ample room");
-    for (name, account) in account::unsound() {
-        cases.name(&format!("{name}: nothing"));
-        cases.case(case(&account, AMPLE_ROOM));
+    cases.group("Printouts: sound accounts of states that are not sound");
+    for (name, state) in state::unsound() {
+        if is_sound(&state.account) {
+            around(cases, &name, &state.account);
+        }
     }
+    let unsound = account::unsound().into_iter();
+    let unsound = unsound.map(|(name, account)| (name, case(&account, AMPLE_ROOM)));
+    let title = "Printouts: accounts that are not sound, in ample room";
+    cases.named_group(title, "nothing", unsound);
     random(cases);
 }
 
@@ -44,7 +51,7 @@ fn around(cases: &mut Cases, name: &str, account: &Account) {
 fn largest() -> Vec<(String, Account)> {
     let mut all = Vec::new();
     let mut add = |name: String, change: &dyn Fn(&mut Account)| {
-        let mut account = fresh(240).1;
+        let mut account = Account::default();
         change(&mut account);
         all.push((format!("all that fits {name}"), summed(account)));
     };
@@ -61,8 +68,7 @@ fn largest() -> Vec<(String, Account)> {
         });
     }
     add("open".to_string(), &|account| {
-        account.open_fragments = HIGHEST_TOTAL;
-        account.open_bytes = 240 * HIGHEST_TOTAL;
+        set_open(account, HIGHEST_TOTAL, 240 * HIGHEST_TOTAL);
     });
     add("taken".to_string(), &|account| account.taken = HIGHEST_TOTAL);
     add("refused".to_string(), &|account| account.refused = HIGHEST_TOTAL);
@@ -71,8 +77,7 @@ fn largest() -> Vec<(String, Account)> {
         account.grid = [[share, share, 240 * share]; ROWS.len()];
         account.grid[Fate::Aborted as usize][PACKETS] = 0;
         account.grid[Fate::BadLength as usize] = [0, share, 0];
-        account.open_fragments = share;
-        account.open_bytes = 240 * share;
+        set_open(account, share, 240 * share);
         account.taken = share;
         account.refused = share;
     });
@@ -103,7 +108,7 @@ fn random(cases: &mut Cases) {
     let mut random = Random::new(SEED);
     cases.group("Printouts: random sound accounts, the room around the length");
     for _ in 0..80 {
-        let account = random_sound(&mut random);
+        let account = random_sound(&mut random, LONGEST_FRAGMENT);
         let room = length(&account) - 2 + random.below(5) as u16;
         cases.case(case(&account, room));
     }
@@ -115,7 +120,7 @@ fn random(cases: &mut Cases) {
 
 /// A sound account whose numbers have one digit as often as nine.
 fn of_any_size(random: &mut Random) -> Account {
-    let mut account = fresh(240).1;
+    let mut account = Account::default();
     let mut number = || {
         let digits = 1 + random.below(8) as u32;
         random.below(10_u64.pow(digits))
@@ -141,5 +146,5 @@ fn length(account: &Account) -> u16 {
 }
 
 fn case(account: &Account, room: u16) -> Line {
-    Line::case("print").bytes(&account::bytes(account)).u16(room)
+    Line::case("print").numbers(&account.numbers()).u16(room)
 }

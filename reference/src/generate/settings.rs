@@ -3,7 +3,7 @@
 use super::Cases;
 use crate::random::Random;
 use crate::text::Line;
-use reference::settings::{self, FLASH_BYTES, LONG_FORM_BYTES, RECORD_BYTES};
+use reference::settings::{self, FLASH_BYTES, LONG_FORM_BYTES, SETTINGS_BYTES};
 
 const SEED: u64 = 0x005e_7715;
 
@@ -21,7 +21,7 @@ const FILL: u8 = 0xee;
 const SOUND: [(u8, u8); 6] =
     [(0x40, NOTHING), (0x41, MAC), (0xc1, MAC), (0x49, ADDRESS), (0x40, BOTH), (0xc9, BOTH)];
 
-/// Records that are each not sound in one way.
+/// Settings that are each not sound in one way.
 const UNSOUND: [(&str, u8, u8); 11] = [
     ("bit 6 of the control zero", 0x01, BOTH),
     ("control 0x00", 0x00, NOTHING),
@@ -36,9 +36,9 @@ const UNSOUND: [(&str, u8, u8); 11] = [
     ("control 0xFF", 0xff, BOTH),
 ];
 
-/// Name, control byte and kept bits of the record, data.
+/// Name, control byte and kept bits of the settings, data.
 const ENABLES: [(&str, u8, u8, &[u8]); 36] = [
-    ("short form 0x40: 11, the record stays as it is", 0x40, NOTHING, &[0x40]),
+    ("short form 0x40: 11, the settings stay as they are", 0x40, NOTHING, &[0x40]),
     ("short form 0x41: 11, the control changes", 0x40, NOTHING, &[0x41]),
     ("short form with EN_ARP_RES, none kept: 11, the control changes", 0x40, NOTHING, &[0x49]),
     ("short form with EN_ARP_RES, address kept: 11, the control changes", 0x40, ADDRESS, &[0x49]),
@@ -85,7 +85,7 @@ pub fn generate(cases: &mut Cases) {
     named_addresses(cases);
     sound_sweep(cases);
     data_lengths(cases);
-    record_lengths(cases);
+    settings_lengths(cases);
     control_bytes(cases);
     address_lengths(cases);
     random_sequences(cases);
@@ -93,17 +93,17 @@ pub fn generate(cases: &mut Cases) {
 }
 
 fn named_fresh(cases: &mut Cases) {
-    cases.group("Receive settings: fresh record");
+    cases.group("Receive settings: fresh");
     for length in 0..=20 {
-        cases.name(&if length < RECORD_BYTES {
+        cases.name(&if length < SETTINGS_BYTES {
             format!("{length} bytes are too short: 12, nothing changes")
         } else {
             format!("{length} bytes: 0, control 0x40, fourteen zeros, the rest unchanged")
         });
         cases.case(fresh_settings(&vec![FILL; length]));
     }
-    cases.name("over a sound record: 0, nothing is kept any more");
-    cases.case(fresh_settings(&record(0xc9, BOTH)));
+    cases.name("over sound settings: 0, nothing is kept any more");
+    cases.case(fresh_settings(&sample(0xc9, BOTH)));
     cases.name("over 40 and 256 bytes: 0, bytes past the fifteenth unchanged");
     cases.case(fresh_settings(&[FILL; 40]));
     cases.case(fresh_settings(&[FILL; 256]));
@@ -111,36 +111,36 @@ fn named_fresh(cases: &mut Cases) {
 
 fn named_sound(cases: &mut Cases) {
     cases.group("Receive settings: soundness");
-    cases.name("a fresh record is sound");
-    let mut made = [FILL; RECORD_BYTES];
+    cases.name("fresh settings are sound");
+    let mut made = [FILL; SETTINGS_BYTES];
     settings::fresh(&mut made);
     cases.case(sound_settings(&made));
     for (control, kept) in SOUND {
-        cases.name(&format!("record {}: sound", shown(control, kept)));
-        cases.case(sound_settings(&record(control, kept)));
+        cases.name(&format!("settings {}: sound", shown(control, kept)));
+        cases.case(sound_settings(&sample(control, kept)));
     }
     for (name, control, kept) in UNSOUND {
         cases.name(&format!("{name}: not sound"));
-        cases.case(sound_settings(&record(control, kept)));
+        cases.case(sound_settings(&sample(control, kept)));
     }
-    cases.name("a sound record cut or lengthened to 0 .. 17 and 40 bytes: sound from 15 bytes on");
+    cases.name("sound settings cut or lengthened to 0 .. 17 and 40 bytes: sound from 15 bytes on");
     for length in (0..=17).chain([40]) {
-        cases.case(sound_settings(&resized(&record(0xc9, BOTH), length)));
+        cases.case(sound_settings(&resized(&sample(0xc9, BOTH), length)));
     }
-    cases.name("a record that is not sound lengthened to 16 and 40 bytes: not sound");
+    cases.name("settings that are not sound lengthened to 16 and 40 bytes: not sound");
     for length in [16, 40] {
-        cases.case(sound_settings(&resized(&record(0xc9, ADDRESS), length)));
+        cases.case(sound_settings(&resized(&sample(0xc9, ADDRESS), length)));
     }
 }
 
 fn sound_sweep(cases: &mut Cases) {
     cases.group("Receive settings: soundness of each control byte, MAC kept");
     for control in 0..=255 {
-        cases.case(sound_settings(&record(control, MAC)));
+        cases.case(sound_settings(&sample(control, MAC)));
     }
     cases.group("Receive settings: soundness of each byte 1, with CBDM");
     for kept in 0..=255 {
-        cases.case(sound_settings(&record(0xc1, kept)));
+        cases.case(sound_settings(&sample(0xc1, kept)));
     }
 }
 
@@ -148,19 +148,19 @@ fn named_enables(cases: &mut Cases) {
     cases.group("Receive Enable: named cases");
     for (name, control, kept, data) in ENABLES {
         cases.name(name);
-        cases.case(enable(&record(control, kept), data));
+        cases.case(enable(&sample(control, kept), data));
     }
     for (name, control, kept) in UNSOUND {
-        cases.name(&format!("record not sound ({name}): 13, short and long form"));
-        cases.case(enable(&record(control, kept), &[0x41]));
-        cases.case(enable(&record(control, kept), &long(0xc9)));
+        cases.name(&format!("settings not sound ({name}): 13, short and long form"));
+        cases.case(enable(&sample(control, kept), &[0x41]));
+        cases.case(enable(&sample(control, kept), &long(0xc9)));
     }
 }
 
 fn data_lengths(cases: &mut Cases) {
     for (control, kept) in SOUND {
-        let before = record(control, kept);
-        cases.group(&format!("Receive Enable: data lengths, record {}", shown(control, kept)));
+        let before = sample(control, kept);
+        cases.group(&format!("Receive Enable: data lengths, settings {}", shown(control, kept)));
         cases.name("0 to 16 bytes with EN_ARP_RES: 11 for 1 and 14, else 8");
         for length in 0..=16 {
             cases.case(enable(&before, &resized(&long(0x49), length)));
@@ -172,65 +172,65 @@ fn data_lengths(cases: &mut Cases) {
     }
     cases.name("255, 256, 257 and 270 bytes: 8");
     for length in [255, 256, 257, 270] {
-        cases.case(enable(&record(0x40, NOTHING), &resized(&long(0x49), length)));
+        cases.case(enable(&sample(0x40, NOTHING), &resized(&long(0x49), length)));
     }
 }
 
-fn record_lengths(cases: &mut Cases) {
-    cases.group("Receive Enable: record lengths, 12 below 15 bytes, else 11");
+fn settings_lengths(cases: &mut Cases) {
+    cases.group("Receive Enable: lengths of settings, 12 below 15 bytes, else 11");
     for length in [0, 1, 2, 13, 14, 15, 16, 17, 40, 255, 256, 270] {
-        cases.case(enable(&resized(&record(0x40, NOTHING), length), &[0x41]));
-        cases.case(enable(&resized(&record(0xc1, MAC), length), &[0xe1]));
-        cases.case(enable(&resized(&record(0x40, NOTHING), length), &long(0xc9)));
+        cases.case(enable(&resized(&sample(0x40, NOTHING), length), &[0x41]));
+        cases.case(enable(&resized(&sample(0xc1, MAC), length), &[0xe1]));
+        cases.case(enable(&resized(&sample(0x40, NOTHING), length), &long(0xc9)));
     }
-    cases.name("refused with 8, 9, 10 and 13 on 15, 16, 17 and 40 bytes: nothing changes");
+    cases.name("answered 8, 9, 10 and 13 on 15, 16, 17 and 40 bytes: nothing changes");
     for length in [15, 16, 17, 40] {
-        let sound = resized(&record(0x40, NOTHING), length);
+        let sound = resized(&sample(0x40, NOTHING), length);
         cases.case(enable(&sound, &[]));
         cases.case(enable(&sound, &[0x71]));
         cases.case(enable(&sound, &[0xc1]));
-        cases.case(enable(&resized(&record(0xc1, NOTHING), length), &[0x41]));
+        cases.case(enable(&resized(&sample(0xc1, NOTHING), length), &[0x41]));
     }
 }
 
 fn order(cases: &mut Cases) {
     cases.group("Receive Enable: order of the answers");
-    let sound = record(0x40, NOTHING);
-    let unsound = record(0xc1, NOTHING);
+    let sound = sample(0x40, NOTHING);
+    let unsound = sample(0xc1, NOTHING);
     let two = [0x71, 0x00];
-    cases.name("14 byte record, not sound, two data bytes, control not allowed: 12");
+    cases.name("14 bytes of settings, not sound, two data bytes, control not allowed: 12");
     cases.case(enable(&unsound[..14], &two));
-    cases.name("14 byte record, not sound, good data: 12");
+    cases.name("14 bytes of settings, not sound, good data: 12");
     cases.case(enable(&unsound[..14], &[0x41]));
-    cases.name("14 byte record, two data bytes: 12");
+    cases.name("14 bytes of settings, two data bytes: 12");
     cases.case(enable(&sound[..14], &two));
-    cases.name("no record and no data: 12");
+    cases.name("no settings and no data: 12");
     cases.case(enable(&[], &[]));
-    cases.name("record not sound, two data bytes, control not allowed: 13");
+    cases.name("settings not sound, two data bytes, control not allowed: 13");
     cases.case(enable(&unsound, &two));
-    cases.name("record not sound, no data: 13");
+    cases.name("settings not sound, no data: 13");
     cases.case(enable(&unsound, &[]));
-    cases.name("record not sound, control not allowed: 13");
+    cases.name("settings not sound, control not allowed: 13");
     cases.case(enable(&unsound, &[0x71]));
-    cases.name("record not sound, CBDM in short form and no MAC kept: 13");
+    cases.name("settings not sound, CBDM in short form and no MAC kept: 13");
     cases.case(enable(&unsound, &[0xc1]));
-    cases.name("record not sound, a long form that would mend it: 13");
+    cases.name("settings not sound, a long form that would mend it: 13");
     cases.case(enable(&unsound, &long(0xc9)));
-    cases.name("sound record, two data bytes, control not allowed: 8");
+    cases.name("sound settings, two data bytes, control not allowed: 8");
     cases.case(enable(&sound, &two));
-    cases.name("sound record, CBDM in short form, control not allowed, no MAC kept: 9");
+    cases.name("sound settings, CBDM in short form, control not allowed, no MAC kept: 9");
     cases.case(enable(&sound, &[0xf1]));
-    cases.name("sound record, CBDM in short form, no MAC kept: 10");
+    cases.name("sound settings, CBDM in short form, no MAC kept: 10");
     cases.case(enable(&sound, &[0xc1]));
-    cases.name("sound record, CBDM in long form, no MAC kept: 11");
+    cases.name("sound settings, CBDM in long form, no MAC kept: 11");
     cases.case(enable(&sound, &long(0xc1)));
 }
 
 fn control_bytes(cases: &mut Cases) {
     for (control, kept) in SOUND {
-        let before = record(control, kept);
+        let before = sample(control, kept);
         cases.group(&format!(
-            "Receive Enable: each control byte, short and long form, record {}",
+            "Receive Enable: each control byte, short and long form, settings {}",
             shown(control, kept)
         ));
         for next in 0..=255 {
@@ -242,59 +242,60 @@ fn control_bytes(cases: &mut Cases) {
 
 fn named_addresses(cases: &mut Cases) {
     cases.group("Addresses in force: named cases");
-    cases.name("fresh record: both from the Flash block");
-    let mut made = [FILL; RECORD_BYTES];
+    cases.name("fresh settings: both from the Flash block");
+    let mut made = [FILL; SETTINGS_BYTES];
     settings::fresh(&mut made);
     both(cases, &made, &FLASH);
-    cases.name("CBDM: the MAC from the record; no address kept: the IPv4 from the Flash block");
-    both(cases, &record(0xc1, MAC), &FLASH);
+    cases.name("CBDM: the MAC from the settings; no address kept: the IPv4 from the Flash block");
+    both(cases, &sample(0xc1, MAC), &FLASH);
     cases.name("MAC kept but CBDM clear: the MAC from the Flash block");
-    both(cases, &record(0x41, MAC), &FLASH);
-    cases.name("address kept: the IPv4 from the record; CBDM clear: the MAC from the Flash block");
-    both(cases, &record(0x49, ADDRESS), &FLASH);
-    cases.name("address kept, EN_ARP_RES clear: the IPv4 from the record all the same");
-    both(cases, &record(0x41, ADDRESS), &FLASH);
+    both(cases, &sample(0x41, MAC), &FLASH);
+    cases
+        .name("address kept: the IPv4 from the settings; CBDM clear: the MAC from the Flash block");
+    both(cases, &sample(0x49, ADDRESS), &FLASH);
+    cases.name("address kept, EN_ARP_RES clear: the IPv4 from the settings all the same");
+    both(cases, &sample(0x41, ADDRESS), &FLASH);
     cases.name("EN_ARP_RES set, no address kept: the IPv4 from the Flash block");
-    both(cases, &record(0x49, NOTHING), &FLASH);
-    cases.name("CBDM and both kept: both from the record");
-    both(cases, &record(0xc9, BOTH), &FLASH);
-    cases.name("both kept, CBDM clear: the MAC from the Flash block, the IPv4 from the record");
-    both(cases, &record(0x40, BOTH), &FLASH);
-    cases.name("Flash block too short: no address, not even from the record");
-    both(cases, &record(0xc9, BOTH), &FLASH[..9]);
-    cases.name("record too short: no address, not even from the Flash block");
-    both(cases, &record(0x40, NOTHING)[..14], &FLASH);
+    both(cases, &sample(0x49, NOTHING), &FLASH);
+    cases.name("CBDM and both kept: both from the settings");
+    both(cases, &sample(0xc9, BOTH), &FLASH);
+    cases.name("both kept, CBDM clear: the MAC from the Flash block, the IPv4 from the settings");
+    both(cases, &sample(0x40, BOTH), &FLASH);
+    cases.name("Flash block too short: no address, not even from the settings");
+    both(cases, &sample(0xc9, BOTH), &FLASH[..9]);
+    cases.name("settings too short: no address, not even from the Flash block");
+    both(cases, &sample(0x40, NOTHING)[..14], &FLASH);
     cases.name("no buffers: no address");
     both(cases, &[], &[]);
     for (name, control, kept) in UNSOUND {
-        cases.name(&format!("record not sound ({name}): no address"));
-        both(cases, &record(control, kept), &FLASH);
+        cases.name(&format!("settings not sound ({name}): no address"));
+        both(cases, &sample(control, kept), &FLASH);
     }
 }
 
 fn address_lengths(cases: &mut Cases) {
     for (control, kept) in SOUND {
         cases.group(&format!(
-            "Addresses in force: lengths of record and Flash block, record {}",
+            "Addresses in force: lengths of settings and Flash block, settings {}",
             shown(control, kept)
         ));
-        for record_length in [14, 15, 16] {
-            let lent = resized(&record(control, kept), record_length);
+        for settings_length in [14, 15, 16] {
+            let lent = resized(&sample(control, kept), settings_length);
             for flash_length in [0, 5, 6, 9, 10, 11] {
                 both(cases, &lent, &resized(&FLASH, flash_length));
             }
         }
-        both(cases, &resized(&record(control, kept), 256), &FLASH);
-        both(cases, &record(control, kept), &resized(&FLASH, 256));
+        both(cases, &resized(&sample(control, kept), 256), &FLASH);
+        both(cases, &sample(control, kept), &resized(&FLASH, 256));
     }
 }
 
 fn random_sequences(cases: &mut Cases) {
     let mut random = Random::new(SEED);
     for number in 1..=24 {
-        cases.group(&format!("Receive settings: random sequence {number} from a fresh record"));
+        cases.group(&format!("Receive settings: random sequence {number} from fresh"));
         let extra = random.pick(&[0, 0, 0, 1, 5]);
-        let mut lent = random.bytes(RECORD_BYTES + extra);
+        let mut lent = random.bytes(SETTINGS_BYTES + extra);
         let flash = random.bytes(FLASH_BYTES);
         cases.case(fresh_settings(&lent));
         settings::fresh(&mut lent);
@@ -325,16 +326,16 @@ fn random_data(random: &mut Random) -> Vec<u8> {
 
 fn random_buffers(cases: &mut Cases) {
     let mut random = Random::new(SEED + 1);
-    cases.group("Receive settings: random records and data");
+    cases.group("Receive settings: random bytes and data");
     for _ in 0..60 {
-        let record_length = 12 + random.below(8) as usize;
-        let lent = random.bytes(record_length);
+        let settings_length = 12 + random.below(8) as usize;
+        let lent = random.bytes(settings_length);
         cases.case(enable(&lent, &random_data(&mut random)));
     }
-    cases.group("Receive settings: random records whose first two bytes are nearly sound");
+    cases.group("Receive settings: random bytes, the first two nearly sound");
     for _ in 0..100 {
-        let record_length = 14 + random.below(4) as usize;
-        let mut lent = random.bytes(record_length);
+        let settings_length = 14 + random.below(4) as usize;
+        let mut lent = random.bytes(settings_length);
         lent[0] = random.byte() | 0x40;
         lent[1] = random.below(5) as u8;
         let data = random_data(&mut random);
@@ -346,12 +347,12 @@ fn random_buffers(cases: &mut Cases) {
     }
 }
 
-/// A record whose bytes all differ, kept or not.
-const fn record(control: u8, kept: u8) -> [u8; RECORD_BYTES] {
+/// Settings whose bytes all differ, kept or not.
+const fn sample(control: u8, kept: u8) -> [u8; SETTINGS_BYTES] {
     [control, kept, 0x02, 0x11, 0x22, 0x33, 0x44, 0x55, 192, 0, 2, 1, 0xa1, 0xa2, 0xa3]
 }
 
-/// A long form whose bytes all differ from those of the record.
+/// A long form whose bytes all differ from those of the sample.
 const fn long(control: u8) -> [u8; LONG_FORM_BYTES] {
     [control, 0x0a, 0xbb, 0xcc, 0xdd, 0xe1, 0xff, 198, 51, 100, 7, 0xb1, 0xb2, 0xb3]
 }
@@ -366,19 +367,19 @@ fn resized(bytes: &[u8], length: usize) -> Vec<u8> {
     resized
 }
 
-fn both(cases: &mut Cases, record: &[u8], flash: &[u8]) {
-    cases.case(Line::case("mac").bytes(record).bytes(flash));
-    cases.case(Line::case("ipv4").bytes(record).bytes(flash));
+fn both(cases: &mut Cases, lent: &[u8], flash: &[u8]) {
+    cases.case(Line::case("mac").bytes(lent).bytes(flash));
+    cases.case(Line::case("ipv4").bytes(lent).bytes(flash));
 }
 
-fn fresh_settings(record: &[u8]) -> Line {
-    Line::case("fresh-settings").bytes(record)
+fn fresh_settings(lent: &[u8]) -> Line {
+    Line::case("fresh-settings").bytes(lent)
 }
 
-fn sound_settings(record: &[u8]) -> Line {
-    Line::case("sound-settings").bytes(record)
+fn sound_settings(lent: &[u8]) -> Line {
+    Line::case("sound-settings").bytes(lent)
 }
 
-fn enable(record: &[u8], data: &[u8]) -> Line {
-    Line::case("enable").bytes(record).bytes(data)
+fn enable(lent: &[u8], data: &[u8]) -> Line {
+    Line::case("enable").bytes(lent).bytes(data)
 }

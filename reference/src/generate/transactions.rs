@@ -1,31 +1,29 @@
 //! Cases of single transactions and of short lists of them, by name.
 
-mod refused;
+mod rejected;
 mod sweeps;
 mod worked;
 
 use std::iter;
 
-use super::{account, Cases};
+use super::Cases;
 use crate::pattern::pattern;
 use crate::text::Line;
-use reference::account::Account;
 use reference::history::Transaction;
-use reference::settings::RECORD_BYTES;
+use reference::settings::FRESH_SETTINGS;
+use reference::state::{self, State};
 
 /// The size of a store that is just large enough.
 pub const STORE_BYTES: u16 = 1536;
 /// The seed of a store before anything is written.
 pub const STORE_SEED: u8 = 0x5b;
-/// A fresh settings record.
-pub const FRESH_SETTINGS: [u8; RECORD_BYTES] = [0x40, 0, 0, 0, 0, 0, 0, 0, 0, 0, 0, 0, 0, 0, 0];
 
 /// Makes the data of two fragments differ, also those of equal sizes.
 const SEED_STEP: usize = 37;
 
 /// A transaction and its answer.
 #[derive(Clone, Copy)]
-struct Send {
+pub struct Send {
     command: u8,
     link_up: bool,
     size: u16,
@@ -49,7 +47,7 @@ type Named = (&'static str, u32, &'static [Send]);
 /// Adds the cases of this subject.
 pub fn generate(cases: &mut Cases) {
     worked::generate(cases);
-    refused::generate(cases);
+    rejected::generate(cases);
     sweeps::generate(cases);
 }
 
@@ -81,11 +79,11 @@ const fn enable(control: u8, size: u16, answer: u8) -> Send {
 }
 
 /// Names the list with its answers, does it from a fresh state on, and shows
-/// the account.
+/// the state.
 fn list_from_fresh(cases: &mut Cases, name: &str, maximum: u32, list: &[Send]) {
     cases.name(&format!("{name}: {}", answers(list)));
-    let (_, account) = reference::account::fresh(maximum);
-    cases.case(start(&account, STORE_BYTES, &FRESH_SETTINGS));
+    let (_, state) = state::fresh(maximum);
+    cases.case(start(&state, STORE_BYTES, &FRESH_SETTINGS));
     sends(cases, list);
     cases.case(show());
 }
@@ -111,12 +109,12 @@ fn seeded(list: &[Send]) -> impl Iterator<Item = (Send, u8)> + '_ {
 
 /// The transactions of a list, each as often as it comes.
 fn single(list: &[Send]) -> impl Iterator<Item = Send> + '_ {
-    list.iter().flat_map(|send| iter::repeat_n(*send, send.times))
+    list.iter().flat_map(|send| iter::repeat(*send).take(send.times))
 }
 
-/// The case that carries an account, a store of the pattern and settings.
-pub fn start(account: &Account, store: u16, settings: &[u8]) -> Line {
-    Line::case("start").bytes(&account::bytes(account)).u16(store).u8(STORE_SEED).bytes(settings)
+/// The case that carries a state, a store of the pattern and settings.
+pub fn start(state: &State, store: u16, settings: &[u8]) -> Line {
+    Line::case("start").numbers(&state.numbers()).u16(store).u8(STORE_SEED).bytes(settings)
 }
 
 /// The case of a transaction with any data.
@@ -129,7 +127,7 @@ pub fn send_pattern(command: u8, link_up: bool, size: u16, seed: u8) -> Line {
     Line::case("send-pattern").u8(command).bool(link_up).u16(size).u8(seed)
 }
 
-/// The case that shows the account and the settings.
+/// The case that shows the state and the settings.
 pub fn show() -> Line {
     Line::case("show")
 }

@@ -2,64 +2,87 @@
 
 #include <string.h>
 
-enum { ROWS = 9, PACKETS = 0, FRAGMENTS = 1, BYTES = 2 };
-enum { NUMBERS = sizeof(tco_account) / sizeof(uint64_t) };
-
-#define HIGHEST_MAXIMUM 240
-#define HIGHEST_TOTAL UINT64_C(4294967295)
+enum { PACKETS = 0, FRAGMENTS = 1, BYTES = 2 };
+enum { NUMBERS = sizeof(tco_state) / sizeof(uint64_t) };
 
 static void make_total_right(tco_account *account)
 {
     account->total = account->open_fragments + account->taken + account->refused;
-    for (int row = 0; row < ROWS; row++)
+    for (int row = 0; row < TCO_ROWS; row++)
         account->total += account->grid[TCO_COLUMNS * row + FRAGMENTS];
 }
 
-tco_account draw_account(struct source *source)
+tco_state draw_state(struct source *source)
 {
-    tco_account account = {.maximum = HIGHEST_MAXIMUM};
+    tco_state state = {.maximum = TCO_MAXIMUM};
+    tco_account *account = &state.account;
     if (one_in(source, 2))
-        account.maximum = between(source, 1, HIGHEST_MAXIMUM);
+        state.maximum = between(source, 1, TCO_MAXIMUM);
     if (one_in(source, 2))
-        return account;
-    uint64_t many = PICK(source, 2, 1000, HIGHEST_TOTAL / (ROWS + 1));
-    for (int row = 0; row < ROWS; row++) {
-        uint64_t *numbers = &account.grid[TCO_COLUMNS * row];
+        return state;
+    uint64_t many = PICK(source, 2, 1000, TCO_LIMIT / (TCO_ROWS + 1));
+    for (int row = 0; row < TCO_ROWS; row++) {
+        uint64_t *numbers = &account->grid[TCO_COLUMNS * row];
         uint64_t fragments = below(source, many);
         numbers[FRAGMENTS] = fragments;
         numbers[PACKETS] = row >= TCO_ROW_ABORTED ? 0 : between(source, 0, fragments);
         numbers[BYTES] =
-            row == TCO_ROW_BAD_LENGTH ? 0 : between(source, 0, HIGHEST_MAXIMUM * fragments);
+            row == TCO_ROW_BAD_LENGTH ? 0 : between(source, 0, TCO_MAXIMUM * fragments);
     }
-    account.open_fragments = PICK(source, 0, 0, 1, 2, 6, 7);
-    account.open_bytes =
-        between(source, account.open_fragments, account.maximum * account.open_fragments);
-    account.taken = below(source, 1000);
-    account.refused = below(source, 1000);
-    make_total_right(&account);
+    account->open_fragments = PICK(source, 0, 0, 1, 2, 6, 7);
+    account->open_bytes =
+        between(source, account->open_fragments, state.maximum * account->open_fragments);
+    account->taken = below(source, 1000);
+    account->refused = below(source, 1000);
+    make_total_right(account);
     if (one_in(source, 4)) {
-        account.refused += HIGHEST_TOTAL - account.total - PICK(source, 0, 1, 2, 30);
-        make_total_right(&account);
+        account->refused += TCO_LIMIT - account->total - PICK(source, 0, 1, 2, 30);
+        make_total_right(account);
     }
-    return account;
+    return state;
 }
 
-void alter_account(struct source *source, tco_account *account)
+static void alter_number(struct source *source, uint64_t *number)
+{
+    const uint64_t bit_32 = UINT64_C(1) << 32;
+    const uint64_t bit_63 = UINT64_C(1) << 63;
+    *number = PICK(source, *number + 1, *number - 1, *number ^ bit_32, *number ^ bit_63, 0, 1,
+                   TCO_MAXIMUM, TCO_MAXIMUM + 1, 256, TCO_LIMIT, TCO_LIMIT + 1,
+                   UINT64_MAX / TCO_MAXIMUM, UINT64_MAX / TCO_MAXIMUM + 1, bit_63, UINT64_MAX);
+}
+
+/* Bytes that the maximum does not allow for so many open fragments, though a larger one may. */
+static void open_past_maximum(struct source *source, tco_state *state)
+{
+    tco_account *account = &state->account;
+    account->open_fragments = PICK(source, 1, 2, 7);
+    account->open_bytes = between(source, state->maximum * account->open_fragments + 1,
+                                  TCO_MAXIMUM * account->open_fragments + 1);
+    make_total_right(account);
+}
+
+void alter_state(struct source *source, tco_state *state)
 {
     uint64_t numbers[NUMBERS];
-    memcpy(numbers, account, sizeof numbers);
-    if (one_in(source, 8)) {
+    switch (below(source, 8)) {
+    case 0:
         for (int i = 0; i < NUMBERS; i++)
             numbers[i] = any(source);
-    } else {
-        uint64_t *number = &numbers[below(source, NUMBERS)];
-        *number = PICK(source, *number + 1, *number - 1, 0, 1, HIGHEST_MAXIMUM, HIGHEST_MAXIMUM + 1,
-                       256, HIGHEST_TOTAL, HIGHEST_TOTAL + 1, UINT64_MAX / HIGHEST_MAXIMUM,
-                       UINT64_MAX / HIGHEST_MAXIMUM + 1, UINT64_C(1) << 63, UINT64_MAX);
+        memcpy(state, numbers, sizeof numbers);
+        break;
+    case 1:
+        alter_number(source, &state->maximum);
+        return;
+    case 2:
+        open_past_maximum(source, state);
+        return;
+    default:
+        memcpy(numbers, state, sizeof numbers);
+        alter_number(source, &numbers[below(source, NUMBERS)]);
+        memcpy(state, numbers, sizeof numbers);
     }
-    memcpy(account, numbers, sizeof numbers);
     if (one_in(source, 2))
-        make_total_right(account);
+        make_total_right(&state->account);
 }
 
 static uint8_t draw_control(struct source *source)
@@ -95,26 +118,27 @@ static uint8_t draw_command(struct source *source, bool is_open)
         return (uint8_t)(0xc0 | below(source, 64));
     case 2:
     case 3:
-        return 0xca;
+        return TCO_COMMAND_RECEIVE_ENABLE;
     case 4:
-        return (uint8_t)PICK(source, 0x84, 0x04, 0x44, 0xc4);
+        return (uint8_t)PICK(source, TCO_COMMAND_FIRST, TCO_COMMAND_MIDDLE, TCO_COMMAND_LAST,
+                             TCO_COMMAND_WHOLE);
     default:
         if (is_open)
-            return one_in(source, 8) ? 0x44 : 0x04;
-        return one_in(source, 4) ? 0xc4 : 0x84;
+            return one_in(source, 8) ? TCO_COMMAND_LAST : TCO_COMMAND_MIDDLE;
+        return one_in(source, 4) ? TCO_COMMAND_WHOLE : TCO_COMMAND_FIRST;
     }
 }
 
-static size_t draw_fragment_length(struct source *source, const tco_account *account)
+static size_t draw_fragment_length(struct source *source, const tco_state *state)
 {
-    uint64_t maximum = account->maximum;
+    uint64_t maximum = state->maximum;
     uint64_t to_edge;
     switch (below(source, 8)) {
     case 0:
         return PICK(source, 0, 1, 14, maximum - 1, maximum, maximum + 1, 240, 241, 255, 256, 257,
                     DATA_MOST);
     case 1:
-        to_edge = PICK(source, 16, 17, 63, 64, 65, 1535, 1536, 1537) - account->open_bytes;
+        to_edge = PICK(source, 16, 17, 63, 64, 65, 1535, 1536, 1537) - state->account.open_bytes;
         return to_edge <= maximum ? to_edge : maximum;
     case 2:
         return 1 + below(source, maximum);
@@ -123,17 +147,17 @@ static size_t draw_fragment_length(struct source *source, const tco_account *acc
     }
 }
 
-struct transaction draw_transaction(struct source *source, const tco_account *account)
+struct transaction draw_transaction(struct source *source, const tco_state *state)
 {
     struct transaction drawn;
-    drawn.command = draw_command(source, account->open_fragments > 0);
+    drawn.command = draw_command(source, state->account.open_fragments > 0);
     drawn.link_up = !one_in(source, 8);
-    if (drawn.command == 0xca)
+    if (drawn.command == TCO_COMMAND_RECEIVE_ENABLE)
         drawn.length = PICK(source, 1, 1, 1, 14, 14, 14, 0, 2, 13, 15, 255, 256 + 1, 256 + 14);
     else
-        drawn.length = draw_fragment_length(source, account);
+        drawn.length = draw_fragment_length(source, state);
     fill(source, drawn.bytes, sizeof drawn.bytes);
-    if (drawn.command == 0xca && !one_in(source, 4))
+    if (drawn.command == TCO_COMMAND_RECEIVE_ENABLE && !one_in(source, 4))
         drawn.bytes[0] = draw_control(source);
     return drawn;
 }

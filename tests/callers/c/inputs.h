@@ -12,7 +12,7 @@ enum {
     FLASH_MOST = 24,
     BLOCK_MOST = 16,
     DATA_MOST = 600,
-    PRINTOUT_MOST = 1024
+    PRINTOUT_MOST = TCO_PRINTOUT_SIZE + 100
 };
 
 struct transaction {
@@ -22,18 +22,18 @@ struct transaction {
     bool link_up;
 };
 
-/* A sound account: fresh, in use, or with little or no room left. */
-tco_account draw_account(struct source *source);
-/* Changes one number of an account, or all. */
-void alter_account(struct source *source, tco_account *account);
+/* A sound state: fresh, in use, or with little or no room left in its account. */
+tco_state draw_state(struct source *source);
+/* Changes one number of a state, often so that it is not sound, or all. */
+void alter_state(struct source *source, tco_state *state);
 
-/* A sound record at the start of the settings, and any bytes after it. */
+/* Sound settings, and any bytes after them. */
 void draw_settings(struct source *source, uint8_t settings[SETTINGS_MOST]);
-/* Changes one byte of a record that decides whether it is sound, or all. */
+/* Changes one byte of settings that decides whether they are sound, or all. */
 void alter_settings(struct source *source, uint8_t settings[SETTINGS_MOST]);
 
-/* A transaction for this account: often one that goes on with its open packet. */
-struct transaction draw_transaction(struct source *source, const tco_account *account);
+/* A transaction for this state: often one that goes on with its open packet. */
+struct transaction draw_transaction(struct source *source, const tco_state *state);
 
 /* Fields of status data that are allowed, but for one of them at times. */
 tco_status draw_status(struct source *source);

@@ -4,9 +4,9 @@
 
 #include "tco.h"
 
-tco_made second_fresh_account(uint32_t maximum);
+tco_made second_fresh_state(uint32_t maximum);
 uint32_t second_fresh_settings(uint8_t *settings, size_t settings_len);
-tco_reply second_transact(tco_account *account, uint8_t *store, size_t store_len, uint8_t *settings,
+tco_reply second_transact(tco_state *state, uint8_t *store, size_t store_len, uint8_t *settings,
                           size_t settings_len, uint8_t command, const uint8_t *bytes,
                           size_t bytes_len, bool link_up);
 size_t second_shown(const uint8_t *store, size_t store_len, size_t length);

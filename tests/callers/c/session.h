@@ -5,7 +5,7 @@
 #include "source.h"
 
 /*
- * Makes at most so many calls on one account, store and record that start anew, and gives how many
+ * Makes at most so many calls on one state, store and settings that start anew, and gives how many
  * it made. Prints what differs and aborts where the two do not agree or a guard byte has changed.
  */
 uint64_t session(struct source *source, uint64_t most_calls);

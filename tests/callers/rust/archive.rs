@@ -1,12 +1,14 @@
 //! The static library as a Rust program calls it.
 
-use second::interface::{Account, Link, Made, Part, Reply, Status, StatusRead, StatusWritten};
+use second::interface::{
+    Account, Link, Made, Part, Reply, State, Status, StatusRead, StatusWritten,
+};
 
 extern "C" {
-    fn tco_fresh_account(maximum: u32) -> Made;
+    fn tco_fresh_state(maximum: u32) -> Made;
     fn tco_fresh_settings(settings: *mut u8, settings_len: usize) -> u32;
     fn tco_transact(
-        account: *mut Account,
+        state: *mut State,
         store: *mut u8,
         store_len: usize,
         settings: *mut u8,
@@ -39,8 +41,8 @@ extern "C" {
 // length says, and no two slices that are lent at once share a byte where one
 // of them can be written.
 
-pub fn fresh_account(maximum: u32) -> Made {
-    unsafe { tco_fresh_account(maximum) }
+pub fn fresh_state(maximum: u32) -> Made {
+    unsafe { tco_fresh_state(maximum) }
 }
 
 pub fn fresh_settings(settings: &mut [u8]) -> u32 {
@@ -48,7 +50,7 @@ pub fn fresh_settings(settings: &mut [u8]) -> u32 {
 }
 
 pub fn transact(
-    account: &mut Account,
+    state: &mut State,
     store: &mut [u8],
     settings: &mut [u8],
     command: u8,
@@ -57,7 +59,7 @@ pub fn transact(
 ) -> Reply {
     unsafe {
         tco_transact(
-            account,
+            state,
             store.as_mut_ptr(),
             store.len(),
             settings.as_mut_ptr(),

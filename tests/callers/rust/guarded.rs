@@ -3,7 +3,7 @@
 use std::ops::{Deref, DerefMut};
 
 use reference::random::Random;
-use second::interface::Account;
+use second::interface::State;
 
 const GUARD: u8 = 0xa5;
 const GUARD_BYTES: usize = 64;
@@ -47,17 +47,17 @@ impl DerefMut for Guarded {
     }
 }
 
-/// A copy of an account between guard bytes.
+/// A copy of a state between guard bytes.
 #[repr(C)]
-pub struct GuardedAccount {
+pub struct GuardedState {
     before: [u8; GUARD_BYTES],
-    pub account: Account,
+    pub state: State,
     after: [u8; GUARD_BYTES],
 }
 
-impl GuardedAccount {
-    pub fn new(account: Account) -> GuardedAccount {
-        GuardedAccount { before: [GUARD; GUARD_BYTES], account, after: [GUARD; GUARD_BYTES] }
+impl GuardedState {
+    pub fn new(state: State) -> GuardedState {
+        GuardedState { before: [GUARD; GUARD_BYTES], state, after: [GUARD; GUARD_BYTES] }
     }
 
     /// Whether every guard byte is as it was.

@@ -2,11 +2,12 @@
 //! at all.
 
 use reference::account::{
-    Account, Fate, BYTES, FATES, FRAGMENTS, HIGHEST_MAXIMUM, HIGHEST_TOTAL, NUMBERS, PACKETS, ROWS,
+    Account, Fate, BYTES, FATES, FRAGMENTS, HIGHEST_TOTAL, LONGEST_FRAGMENT, PACKETS, ROWS,
 };
 use reference::packet::LONGEST_PACKET;
 use reference::random::Random;
-use reference::settings::{CBDM, LONG_FORM_BYTES, MAC_KEPT, RECORD_BYTES, SHORT_FORM_BYTES};
+use reference::settings::{CBDM, LONG_FORM_BYTES, MAC_KEPT, SETTINGS_BYTES, SHORT_FORM_BYTES};
+use reference::state::{State, HIGHEST_MAXIMUM};
 use reference::translator::{
     FIRST, FIRST_FRAGMENT, LAST, LAST_FRAGMENT, MIDDLE_FRAGMENT, RECEIVE_ENABLE, WHOLE_PACKET,
 };
@@ -24,13 +25,13 @@ pub struct Transaction {
     pub link_up: bool,
 }
 
-/// A sound account: fresh, in use, or with little or no room left.
-pub fn account(random: &mut Random) -> Account {
+/// A sound state: fresh, in use, or with little or no room left in its account.
+pub fn state(random: &mut Random) -> State {
     let maximum =
-        if random.one_in(2) { HIGHEST_MAXIMUM } else { between(random, 1, HIGHEST_MAXIMUM) };
-    let mut account = Account { maximum, ..Account::default() };
+        if random.one_in(2) { HIGHEST_MAXIMUM } else { random.between(1, HIGHEST_MAXIMUM) };
+    let mut account = Account::default();
     if random.one_in(2) {
-        return account;
+        return State { account, maximum };
     }
     let many = random.pick(&[2, 1000, HIGHEST_TOTAL / (FATES as u64 + 1)]);
     for fate in ROWS {
@@ -38,15 +39,15 @@ pub fn account(random: &mut Random) -> Account {
         let row = &mut account.grid[fate as usize];
         row[FRAGMENTS] = fragments;
         if fate != Fate::BadLength {
-            row[BYTES] = between(random, 0, HIGHEST_MAXIMUM * fragments);
+            row[BYTES] = random.between(0, LONGEST_FRAGMENT * fragments);
         }
         if fate != Fate::BadLength && fate != Fate::Aborted {
-            row[PACKETS] = between(random, 0, fragments);
+            row[PACKETS] = random.between(0, fragments);
         }
     }
     account.open_fragments = random.pick(&[0, 0, 1, 2, 6, 7]);
     let most = maximum * account.open_fragments;
-    account.open_bytes = between(random, account.open_fragments, most);
+    account.open_bytes = random.between(account.open_fragments, most);
     account.taken = random.below(1000);
     account.refused = random.below(1000);
     account.total = sum(&account);
@@ -55,36 +56,57 @@ pub fn account(random: &mut Random) -> Account {
         account.taken += left;
         account.total += left;
     }
-    account
+    State { account, maximum }
 }
 
-/// The same account with one number changed, or all.
-pub fn altered(random: &mut Random, account: &Account) -> Account {
-    let mut numbers = account.numbers();
-    if random.one_in(8) {
-        numbers = std::array::from_fn(|_| random.u64() >> random.below(64));
-    } else {
-        let number = &mut numbers[random.below(NUMBERS as u64) as usize];
-        *number = random.pick(&[
-            number.wrapping_add(1),
-            number.wrapping_sub(1),
-            0,
-            1,
-            HIGHEST_MAXIMUM,
-            HIGHEST_MAXIMUM + 1,
-            HIGHEST_TOTAL,
-            HIGHEST_TOTAL + 1,
-            u64::MAX / HIGHEST_MAXIMUM,
-            u64::MAX / HIGHEST_MAXIMUM + 1,
-            1 << 63,
-            u64::MAX,
-        ]);
-    }
-    let mut account = Account::of_numbers(numbers);
+/// The same sound state with one number changed, often so that it is not
+/// sound, or with all changed.
+pub fn altered(random: &mut Random, state: &State) -> State {
+    let mut altered = match random.below(8) {
+        0 => State::of_numbers(std::array::from_fn(|_| random.u64() >> random.below(64))),
+        1 => return State { maximum: altered_number(random, state.maximum), ..*state },
+        2 => return open_past_maximum(random, state),
+        _ => {
+            let mut numbers = state.numbers();
+            let place = random.below(numbers.len() as u64) as usize;
+            numbers[place] = altered_number(random, numbers[place]);
+            State::of_numbers(numbers)
+        }
+    };
     if random.one_in(2) {
-        account.total = sum(&account);
+        altered.account.total = sum(&altered.account);
     }
-    account
+    altered
+}
+
+fn altered_number(random: &mut Random, number: u64) -> u64 {
+    random.pick(&[
+        number.wrapping_add(1),
+        number.wrapping_sub(1),
+        number ^ 1 << 32,
+        number ^ 1 << 63,
+        0,
+        1,
+        HIGHEST_MAXIMUM,
+        HIGHEST_MAXIMUM + 1,
+        HIGHEST_TOTAL,
+        HIGHEST_TOTAL + 1,
+        u64::MAX / HIGHEST_MAXIMUM,
+        u64::MAX / HIGHEST_MAXIMUM + 1,
+        1 << 63,
+        u64::MAX,
+    ])
+}
+
+/// The state with bytes that its maximum does not allow for so many open
+/// fragments, though a larger one may.
+fn open_past_maximum(random: &mut Random, state: &State) -> State {
+    let State { mut account, maximum } = *state;
+    account.open_fragments = random.pick(&[1, 2, 7]);
+    let least = maximum * account.open_fragments + 1;
+    account.open_bytes = random.between(least, LONGEST_FRAGMENT * account.open_fragments + 1);
+    account.total = sum(&account);
+    State { account, maximum }
 }
 
 fn sum(account: &Account) -> u64 {
@@ -93,7 +115,7 @@ fn sum(account: &Account) -> u64 {
     in_grid.chain(beside).fold(0, u64::wrapping_add)
 }
 
-/// A sound record, and any bytes after it.
+/// Sound settings, and any bytes after them.
 pub fn settings(random: &mut Random) -> Vec<u8> {
     let mut settings = random.bytes(SETTINGS_MOST);
     settings[0] = control(random);
@@ -104,8 +126,8 @@ pub fn settings(random: &mut Random) -> Vec<u8> {
     settings
 }
 
-/// The same settings with one of the bytes changed that decide whether the
-/// record is sound, or with all.
+/// The same settings with one of the bytes changed that decide whether they
+/// are sound, or with all.
 pub fn altered_settings(random: &mut Random, settings: &[u8]) -> Vec<u8> {
     if random.one_in(8) {
         return random.bytes(settings.len());
@@ -120,12 +142,12 @@ fn control(random: &mut Random) -> u8 {
     random.pick(&[0x40, 0x41, 0x48, 0x49, 0x61, 0x6f, 0xc1, 0xc9, 0xdf])
 }
 
-/// A transaction for this account: often one that goes on with its open packet.
-pub fn transaction(random: &mut Random, account: &Account) -> Transaction {
-    let command = command(random, account.open_fragments > 0);
+/// A transaction for this state: often one that goes on with its open packet.
+pub fn transaction(random: &mut Random, state: &State) -> Transaction {
+    let command = command(random, state.account.open_fragments > 0);
     let link_up = !random.one_in(8);
     if command != RECEIVE_ENABLE {
-        let length = fragment_length(random, account);
+        let length = fragment_length(random, state);
         return Transaction { command, bytes: random.bytes(length), link_up };
     }
     let length = match random.below(8) {
@@ -153,8 +175,8 @@ fn command(random: &mut Random, is_open: bool) -> u8 {
     }
 }
 
-fn fragment_length(random: &mut Random, account: &Account) -> usize {
-    let maximum = account.maximum;
+fn fragment_length(random: &mut Random, state: &State) -> usize {
+    let maximum = state.maximum;
     let length = match random.below(8) {
         0 => random.pick(&[0, 1, maximum - 1, maximum + 1, 240, 241, 255, 256, 257]),
         1 => random.below(DATA_MOST as u64),
@@ -162,7 +184,7 @@ fn fragment_length(random: &mut Random, account: &Account) -> usize {
         3 => {
             let edges =
                 [16, 17, 63, 64, 65, LONGEST_PACKET - 1, LONGEST_PACKET, LONGEST_PACKET + 1];
-            random.pick(&edges).saturating_sub(account.open_bytes).min(maximum)
+            random.pick(&edges).saturating_sub(state.account.open_bytes).min(maximum)
         }
         _ => maximum,
     };
@@ -172,7 +194,7 @@ fn fragment_length(random: &mut Random, account: &Account) -> usize {
 /// Fields of status data that are allowed, but for one of them at times.
 pub fn status(random: &mut Random) -> Status {
     let mut status = Status {
-        length: between(random, 1, LONGEST_PACKET) as u16,
+        length: random.between(1, LONGEST_PACKET) as u16,
         vlan: random.u16(),
         decision_match: random.one_in(2),
         decision_index: 0,
@@ -239,13 +261,4 @@ pub fn usual_length(random: &mut Random, needed: usize, most: usize) -> usize {
     random.pick(&[needed, needed + 1, most])
 }
 
-/// A number from the least to the most, often one of these two.
-fn between(random: &mut Random, least: u64, most: u64) -> u64 {
-    match random.below(4) {
-        0 => least,
-        1 => most,
-        _ => least + random.below(most - least + 1),
-    }
-}
-
-const _: () = assert!(RECORD_BYTES < SETTINGS_MOST && (LONGEST_PACKET as usize) < STORE_MOST);
+const _: () = assert!(SETTINGS_BYTES < SETTINGS_MOST && (LONGEST_PACKET as usize) < STORE_MOST);

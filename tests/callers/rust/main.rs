@@ -13,6 +13,8 @@ use std::env;
 use std::process::ExitCode;
 use std::time::{Duration, Instant};
 
+use second::interface;
+
 use crate::session::Session;
 
 const SESSION_CALLS: u64 = 300;
@@ -25,9 +27,13 @@ enum Until {
 fn main() -> ExitCode {
     let mut arguments = env::args();
     let name = arguments.next().unwrap_or_default();
-    let Some((until, seed)) = read(&arguments.collect::<Vec<_>>()) else {
-        eprintln!("usage: {name} calls|seconds COUNT SEED");
-        return ExitCode::from(2);
+    interface::assert_offsets();
+    let (until, seed) = match read(&arguments.collect::<Vec<_>>()) {
+        Some(asked) => asked,
+        None => {
+            eprintln!("usage: {name} calls|seconds COUNT SEED");
+            return ExitCode::from(2);
+        }
     };
     match run(&until, seed) {
         Ok(calls) => {
@@ -42,8 +48,9 @@ fn main() -> ExitCode {
 }
 
 fn read(arguments: &[String]) -> Option<(Until, u64)> {
-    let [unit, count, seed] = arguments else {
-        return None;
+    let (unit, count, seed) = match arguments {
+        [unit, count, seed] => (unit, count, seed),
+        _ => return None,
     };
     let count = count.parse().ok()?;
     let until = match unit.as_str() {

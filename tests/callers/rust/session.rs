@@ -1,4 +1,4 @@
-//! A session of calls on one account, store and record, each made of the static
+//! A session of calls on one state, store and settings, each made of the static
 //! library and of the second program and compared.
 
 use std::fmt::Debug;
@@ -6,11 +6,11 @@ use std::fmt::Debug;
 use reference::packet::LONGEST_PACKET;
 use reference::printout::ENOUGH_ROOM;
 use reference::random::Random;
-use reference::settings::{FLASH_BYTES, RECORD_BYTES};
-use reference::{account, answer_numbers};
-use second::interface::{Account, Part};
+use reference::settings::{FLASH_BYTES, SETTINGS_BYTES};
+use reference::{answer_numbers, state};
+use second::interface::{Part, State};
 
-use crate::guarded::{Guarded, GuardedAccount};
+use crate::guarded::{Guarded, GuardedState};
 use crate::{archive, inputs};
 
 const STORE_BYTES: usize = LONGEST_PACKET as usize;
@@ -28,7 +28,7 @@ struct Operation {
 
 const OPERATIONS: [Operation; 10] = [
     Operation { share: 20, name: "tco_transact", call: Session::transact },
-    Operation { share: 1, name: "tco_fresh_account", call: Session::fresh_account },
+    Operation { share: 1, name: "tco_fresh_state", call: Session::fresh_state },
     Operation { share: 1, name: "tco_fresh_settings", call: Session::fresh_settings },
     Operation { share: 1, name: "tco_shown", call: Session::shown },
     Operation { share: 1, name: "tco_mac_in_force", call: Session::mac_in_force },
@@ -42,7 +42,7 @@ const OPERATIONS: [Operation; 10] = [
 /// What the calls of a session share.
 pub struct Session {
     random: Random,
-    account: account::Account,
+    state: state::State,
     store: Vec<u8>,
     settings: Vec<u8>,
     flash: Vec<u8>,
@@ -56,13 +56,17 @@ impl Session {
     pub fn new(seed: u64) -> Session {
         let mut random = Random::new(seed);
         Session {
-            account: inputs::account(&mut random),
+            state: inputs::state(&mut random),
             store: random.bytes(inputs::STORE_MOST),
             settings: inputs::settings(&mut random),
             flash: random.bytes(FLASH_MOST),
             in_force: random.u32(),
             usual_store: inputs::usual_length(&mut random, STORE_BYTES, inputs::STORE_MOST),
-            usual_settings: inputs::usual_length(&mut random, RECORD_BYTES, inputs::SETTINGS_MOST),
+            usual_settings: inputs::usual_length(
+                &mut random,
+                SETTINGS_BYTES,
+                inputs::SETTINGS_MOST,
+            ),
             random,
         }
     }
@@ -82,21 +86,18 @@ impl Session {
     }
 
     fn transact(&mut self) -> Found {
-        let drawn = inputs::transaction(&mut self.random, &self.account);
-        let mut account = Account::from(&self.account);
-        if self.random.one_in(16) {
-            account = (&inputs::altered(&mut self.random, &self.account)).into();
-        }
+        let drawn = inputs::transaction(&mut self.random, &self.state);
+        let mut state = State::from(&self.state_for_call(16));
         let mut settings = self.settings_for_call(16);
         let store_length = self.store_length();
         let settings_length = self.settings_length();
 
-        let mut lent_account = GuardedAccount::new(account);
+        let mut lent_state = GuardedState::new(state);
         let mut lent_store = Guarded::new(&self.store[..store_length], &mut self.random);
         let mut lent_settings = Guarded::new(&settings[..settings_length], &mut self.random);
         let lent_bytes = Guarded::new(&drawn.bytes, &mut self.random);
         let got = archive::transact(
-            &mut lent_account.account,
+            &mut lent_state.state,
             &mut lent_store,
             &mut lent_settings,
             drawn.command,
@@ -104,7 +105,7 @@ impl Session {
             drawn.link_up,
         );
         let wanted = second::transact(
-            &mut account,
+            &mut state,
             &mut self.store[..store_length],
             &mut settings[..settings_length],
             drawn.command,
@@ -112,25 +113,25 @@ impl Session {
             drawn.link_up,
         );
         same("reply", got, wanted)?;
-        same("account", lent_account.account, account)?;
-        guarded("account", lent_account.intact())?;
+        same("state", lent_state.state, state)?;
+        guarded("state", lent_state.intact())?;
         same_bytes("store", &lent_store, &self.store[..store_length])?;
         same_bytes("settings", &lent_settings, &settings[..settings_length])?;
         same_bytes("data", &lent_bytes, &drawn.bytes)?;
 
-        // What was altered and then not counted may be refused for good.
+        // What was altered and then not counted may be rejected for good.
         if wanted.answer <= answer_numbers::RECEIVE_ENABLE_TAKEN.into() {
-            self.account = (&account).into();
+            self.state = (&state).into();
             self.settings = settings;
         }
         Ok(())
     }
 
-    fn fresh_account(&mut self) -> Found {
+    fn fresh_state(&mut self) -> Found {
         let any = self.random.u32();
         let edges = [0, 1, 2, 239, 240, 241, 255, 256, 257, u32::MAX, any, any % 256];
         let maximum = self.random.pick(&edges);
-        same("account made", archive::fresh_account(maximum), second::fresh_account(maximum))
+        same("made", archive::fresh_state(maximum), second::fresh_state(maximum))
     }
 
     fn fresh_settings(&mut self) -> Found {
@@ -205,13 +206,9 @@ impl Session {
     }
 
     fn print_account(&mut self) -> Found {
-        let mut account = self.account;
-        if self.random.one_in(4) {
-            account = inputs::altered(&mut self.random, &account);
-        }
-        let account = Account::from(&account);
+        let State { account, .. } = State::from(&self.state_for_call(4));
         let exact = second::print_account(account, &mut [0; ENOUGH_ROOM]);
-        let length = inputs::length(&mut self.random, exact, exact + 1, ENOUGH_ROOM);
+        let length = inputs::length(&mut self.random, exact, exact.max(1), ENOUGH_ROOM);
         let mut wanted = self.random.bytes(length);
         let mut lent = Guarded::new(&wanted, &mut self.random);
         let got = archive::print_account(account, &mut lent);
@@ -224,7 +221,16 @@ impl Session {
     }
 
     fn settings_length(&mut self) -> usize {
-        inputs::length(&mut self.random, self.usual_settings, RECORD_BYTES, inputs::SETTINGS_MOST)
+        inputs::length(&mut self.random, self.usual_settings, SETTINGS_BYTES, inputs::SETTINGS_MOST)
+    }
+
+    /// The state, altered once in so many times.
+    fn state_for_call(&mut self, times: u64) -> state::State {
+        if self.random.one_in(times) {
+            inputs::altered(&mut self.random, &self.state)
+        } else {
+            self.state
+        }
     }
 
     /// The settings, altered once in so many times.

@@ -10,11 +10,13 @@
 
 use std::slice::{from_raw_parts, from_raw_parts_mut};
 
-use crate::interface::{Account, Link, Made, Part, Reply, Status, StatusRead, StatusWritten};
+use crate::interface::{
+    Account, Link, Made, Part, Reply, State, Status, StatusRead, StatusWritten,
+};
 
 #[no_mangle]
-pub extern "C" fn second_fresh_account(maximum: u32) -> Made {
-    crate::fresh_account(maximum)
+pub extern "C" fn second_fresh_state(maximum: u32) -> Made {
+    crate::fresh_state(maximum)
 }
 
 #[no_mangle]
@@ -24,7 +26,7 @@ pub unsafe extern "C" fn second_fresh_settings(settings: *mut u8, settings_len: 
 
 #[no_mangle]
 pub unsafe extern "C" fn second_transact(
-    account: &mut Account,
+    state: &mut State,
     store: *mut u8,
     store_len: usize,
     settings: *mut u8,
@@ -35,7 +37,7 @@ pub unsafe extern "C" fn second_transact(
     link_up: bool,
 ) -> Reply {
     crate::transact(
-        account,
+        state,
         from_raw_parts_mut(store, store_len),
         from_raw_parts_mut(settings, settings_len),
         command,

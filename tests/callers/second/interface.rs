@@ -1,6 +1,7 @@
 //! The structs of the C interface, as `include/tco.h` declares them.
 
-use std::mem::{align_of, offset_of, size_of};
+use std::mem::{align_of, size_of};
+use std::ptr::addr_of;
 
 /// The numbers of the grid.
 pub const GRID: usize = 27;
@@ -11,7 +12,6 @@ pub const BLOCK_BYTES: usize = 8;
 #[repr(C)]
 #[derive(Clone, Copy, Debug, Default, PartialEq, Eq)]
 pub struct Account {
-    pub maximum: u64,
     pub grid: [u64; GRID],
     pub open_fragments: u64,
     pub open_bytes: u64,
@@ -20,9 +20,17 @@ pub struct Account {
     pub total: u64,
 }
 
+/// `tco_state`
+#[repr(C)]
+#[derive(Clone, Copy, Debug, Default, PartialEq, Eq)]
+pub struct State {
+    pub account: Account,
+    pub maximum: u64,
+}
+
 /// `tco_reply`
 #[repr(C)]
-#[derive(Clone, Copy, Debug, PartialEq, Eq)]
+#[derive(Clone, Copy, Debug, Default, PartialEq, Eq)]
 pub struct Reply {
     pub answer: u32,
     pub sent: u32,
@@ -30,15 +38,15 @@ pub struct Reply {
 
 /// `tco_made`
 #[repr(C)]
-#[derive(Clone, Copy, Debug, PartialEq, Eq)]
+#[derive(Clone, Copy, Debug, Default, PartialEq, Eq)]
 pub struct Made {
     pub answer: u32,
-    pub account: Account,
+    pub state: State,
 }
 
 /// `tco_part`
 #[repr(C)]
-#[derive(Clone, Copy, Debug, PartialEq, Eq)]
+#[derive(Clone, Copy, Debug, Default, PartialEq, Eq)]
 pub struct Part {
     pub source: u32,
     pub start: u32,
@@ -59,7 +67,7 @@ pub struct Status {
 
 /// `tco_status_written`
 #[repr(C)]
-#[derive(Clone, Copy, Debug, PartialEq, Eq)]
+#[derive(Clone, Copy, Debug, Default, PartialEq, Eq)]
 pub struct StatusWritten {
     pub answer: u32,
     pub block: [u8; BLOCK_BYTES],
@@ -67,7 +75,7 @@ pub struct StatusWritten {
 
 /// `tco_status_read`
 #[repr(C)]
-#[derive(Clone, Copy, Debug, PartialEq, Eq)]
+#[derive(Clone, Copy, Debug, Default, PartialEq, Eq)]
 pub struct StatusRead {
     pub answer: u32,
     pub fields: Status,
@@ -75,7 +83,7 @@ pub struct StatusRead {
 
 /// `tco_link`
 #[repr(C)]
-#[derive(Clone, Copy, Debug, PartialEq, Eq)]
+#[derive(Clone, Copy, Debug, Default, PartialEq, Eq)]
 pub struct Link {
     pub response: u16,
     pub reason: u16,
@@ -84,18 +92,31 @@ pub struct Link {
 
 // The same numbers as in c/layout.c.
 macro_rules! layout {
-    ($type:ty, size $size:literal, align $align:literal, $($field:ident $offset:literal),+) => {
-        const _: () = assert!(size_of::<$type>() == $size && align_of::<$type>() == $align);
-        $(const _: () = assert!(offset_of!($type, $field) == $offset);)+
+    ($($type:ty, size $size:literal, align $align:literal, $($field:ident $offset:literal),+;)+) => {
+        $(const _: () = assert!(size_of::<$type>() == $size && align_of::<$type>() == $align);)+
+
+        /// Stops where a field of a struct does not lie where the header has it.
+        pub fn assert_offsets() {
+            $({
+                let whole = <$type>::default();
+                $({
+                    let offset = addr_of!(whole.$field) as usize - addr_of!(whole) as usize;
+                    assert_eq!(offset, $offset, stringify!($type.$field));
+                })+
+            })+
+        }
     };
 }
-layout!(Account, size 264, align 8, maximum 0, grid 8, open_fragments 224, open_bytes 232,
-    taken 240, refused 248, total 256);
-layout!(Reply, size 8, align 4, answer 0, sent 4);
-layout!(Made, size 272, align 8, answer 0, account 8);
-layout!(Part, size 12, align 4, source 0, start 4, length 8);
-layout!(Status, size 8, align 2, length 0, vlan 2, decision_match 4, decision_index 5,
-    vlan_match 6, vlan_index 7);
-layout!(StatusWritten, size 12, align 4, answer 0, block 4);
-layout!(StatusRead, size 12, align 4, answer 0, fields 4);
-layout!(Link, size 8, align 4, response 0, reason 2, in_force 4);
+layout! {
+    Account, size 256, align 8, grid 0, open_fragments 216, open_bytes 224, taken 232, refused 240,
+        total 248;
+    State, size 264, align 8, account 0, maximum 256;
+    Reply, size 8, align 4, answer 0, sent 4;
+    Made, size 272, align 8, answer 0, state 8;
+    Part, size 12, align 4, source 0, start 4, length 8;
+    Status, size 8, align 2, length 0, vlan 2, decision_match 4, decision_index 5, vlan_match 6,
+        vlan_index 7;
+    StatusWritten, size 12, align 4, answer 0, block 4;
+    StatusRead, size 12, align 4, answer 0, fields 4;
+    Link, size 8, align 4, response 0, reason 2, in_force 4;
+}

@@ -7,10 +7,10 @@ pub mod interface;
 use reference::setlink::{Media, FAILED, INVALID_PARAMETER};
 use reference::settings::AddressInForce;
 use reference::status::StatusData;
-use reference::{account, packet, printout, setlink, settings, status, translator};
+use reference::{account, packet, printout, setlink, settings, state, status, translator};
 
 use crate::interface::{
-    Account, Link, Made, Part, Reply, Status, StatusRead, StatusWritten, BLOCK_BYTES,
+    Account, Link, Made, Part, Reply, State, Status, StatusRead, StatusWritten, BLOCK_BYTES,
 };
 
 const COPPER: u32 = 0;
@@ -24,7 +24,6 @@ impl From<&account::Account> for Account {
     fn from(own: &account::Account) -> Account {
         let mut grid = own.grid.into_iter().flatten();
         Account {
-            maximum: own.maximum,
             grid: std::array::from_fn(|_| grid.next().unwrap_or_default()),
             open_fragments: own.open_fragments,
             open_bytes: own.open_bytes,
@@ -38,7 +37,6 @@ impl From<&account::Account> for Account {
 impl From<&Account> for account::Account {
     fn from(lent: &Account) -> account::Account {
         account::Account {
-            maximum: lent.maximum,
             grid: std::array::from_fn(|row| {
                 std::array::from_fn(|column| lent.grid[account::COLUMNS * row + column])
             }),
@@ -51,10 +49,22 @@ impl From<&Account> for account::Account {
     }
 }
 
-/// `tco_fresh_account`
-pub fn fresh_account(maximum: u32) -> Made {
-    let (answer, account) = account::fresh(maximum);
-    Made { answer: answer.into(), account: (&account).into() }
+impl From<&state::State> for State {
+    fn from(own: &state::State) -> State {
+        State { account: (&own.account).into(), maximum: own.maximum }
+    }
+}
+
+impl From<&State> for state::State {
+    fn from(lent: &State) -> state::State {
+        state::State { account: (&lent.account).into(), maximum: lent.maximum }
+    }
+}
+
+/// `tco_fresh_state`
+pub fn fresh_state(maximum: u32) -> Made {
+    let (answer, state) = state::fresh(maximum);
+    Made { answer: answer.into(), state: (&state).into() }
 }
 
 /// `tco_fresh_settings`
@@ -64,16 +74,16 @@ pub fn fresh_settings(settings: &mut [u8]) -> u32 {
 
 /// `tco_transact`
 pub fn transact(
-    account: &mut Account,
+    state: &mut State,
     store: &mut [u8],
     settings: &mut [u8],
     command: u8,
     bytes: &[u8],
     link_up: bool,
 ) -> Reply {
-    let mut own = account::Account::from(&*account);
+    let mut own = state::State::from(&*state);
     let (answer, sent) = translator::transact(&mut own, store, settings, command, bytes, link_up);
-    *account = (&own).into();
+    *state = (&own).into();
     Reply { answer: answer.into(), sent: sent.into() }
 }
 
@@ -142,7 +152,7 @@ const _: () = assert!(status::BLOCK_BYTES == BLOCK_BYTES);
 fn part(settings: &[u8], flash: &[u8], address: AddressInForce) -> Part {
     let (source, start) = match address {
         AddressInForce::Nowhere => (FROM_NOWHERE, 0),
-        AddressInForce::Record(part) => (FROM_SETTINGS, start_in(settings, part)),
+        AddressInForce::Settings(part) => (FROM_SETTINGS, start_in(settings, part)),
         AddressInForce::Flash(part) => (FROM_FLASH, start_in(flash, part)),
     };
     Part { source, start, length: address.part().len() as u32 }

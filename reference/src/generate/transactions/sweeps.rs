@@ -2,10 +2,11 @@
 
 use super::{
     answers, enable, list_from_fresh, packet, send_pattern, sends, show, start, up, Send,
-    FRESH_SETTINGS, STORE_BYTES,
+    STORE_BYTES,
 };
 use crate::generate::Cases;
-use reference::account::fresh;
+use reference::settings::FRESH_SETTINGS;
+use reference::state::fresh;
 
 const FRAGMENTS: [u8; 4] = [0x84, 0x04, 0x44, 0xc4];
 const MAXIMUMS: [u32; 8] = [1, 2, 3, 17, 32, 64, 239, 240];
@@ -219,7 +220,7 @@ fn triples(cases: &mut Cases) {
 fn cut(total: u16, size: u16, link_up: bool) -> Vec<Send> {
     let last = match total {
         1537.. => 4,
-        ..=16 => 5,
+        0..=16 => 5,
         _ if !link_up => 6,
         _ => 1,
     };

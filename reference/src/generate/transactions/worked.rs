@@ -58,12 +58,12 @@ const WORKED: [Named; 10] = [
 
 const SLIPS: [Named; 8] = [
     (
-        "slip: a Last is not joined onto a packet whose middle was badly received, 0 bytes",
+        "slip: a Middle of 0 bytes breaks the packet, so its Last joins nothing",
         240,
         &[up(0x84, 20, 0), up(0x04, 30, 0), up(0x04, 0, 3), up(0x44, 40, 2)],
     ),
     (
-        "slip: a Last is not joined onto a packet whose middle was badly received, 241 bytes",
+        "slip: a Middle of 241 bytes breaks the packet, so its Last joins nothing",
         240,
         &[up(0x84, 20, 0), up(0x04, 241, 3), up(0x04, 30, 2), up(0x44, 40, 2)],
     ),
