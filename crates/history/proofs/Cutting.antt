@@ -153,10 +153,6 @@ alone-not-sent _ of-9 = refl
 alone-not-sent _ of-10 = refl
 alone-not-sent _ of-11 = refl
 
-aborted-not-sent : (piece : List ℕ) → packetsSent (alone piece (lineOf 2) ∷ []) ≡ []
-unfolding if_then_else_
-aborted-not-sent piece = refl
-
 open-not-sent : (held : List (List ℕ)) → packetsSent (closing opened held) ≡ []
 unfolding if_then_else_
 open-not-sent [] = refl

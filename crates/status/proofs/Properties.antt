@@ -59,7 +59,6 @@ mng-packed mng w h =
 
 -- what allowed fields are within
 record Within (f : Fields) : Type 0 where
-  length-least : 1 ≤ f .length
   length-most : f .length ≤ 1536
   decision-most : f .«decision_index» ≤ 15
   vlan-most : f .«vlan_index» ≤ 7
@@ -67,12 +66,10 @@ record Within (f : Fields) : Type 0 where
 allowed-within : (f : Fields) → allowed f ≡ true → Within f
 unfolding allowed
 allowed-within f h =
-    let first : _ = if-first _ _ h in
     let second : _ = if-first _ _ (if-second _ _ h) in
     let third : _ = if-first _ _ (if-second _ _ (if-second _ _ h)) in
     let fourth : _ = if-second _ _ (if-second _ _ (if-second _ _ h)) in
     record {
-      length-least = leb-true _ _ first;
       length-most = leb-true _ _ second;
       decision-most = index-max _ _ _ third;
       vlan-most = index-max _ _ _ fourth;
