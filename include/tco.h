@@ -104,7 +104,7 @@ typedef struct {
 
 typedef struct {
     uint32_t answer;
-    uint32_t sent; /* the sent length where the answer is TCO_SENT, else 0 */
+    uint32_t sent; /* the sent length, 60 to 1536, where the answer is TCO_SENT, else 0 */
 } tco_reply;
 
 typedef struct {
@@ -153,10 +153,14 @@ uint32_t tco_fresh_settings(uint8_t *settings, size_t settings_len);
    without data still needs a pointer that is not null. State, store and settings are changed where
    they lie, and go into the next call as they are; answered 12, 13 or 14, nothing changed.
 
-   Answered 1, the first `sent` bytes of the store are to be sent before the next call. Answered 14,
-   the account is full and stays so: print it and keep it as evidence, start anew with a fresh state and
-   fresh settings, and do the transaction again. Nothing is open then, and the controller has to enable
-   receiving again; settings that are kept across a fresh state are not those of the new transactions. */
+   Answered 1, the first `sent` bytes of the store are to be sent before the next call: the packet,
+   filled up with zeros to 60 bytes where it has fewer. With its four check bytes, which are not among
+   them, the shortest one has 64, the least that 802.3 allows.
+
+   Answered 14, the account is full and stays so: print it and keep it as evidence, start anew with a
+   fresh state and fresh settings, and do the transaction again. Nothing is open then, and the
+   controller has to enable receiving again; settings that are kept across a fresh state are not those
+   of the new transactions. */
 tco_reply tco_transact(tco_state *state, uint8_t *store, size_t store_len, uint8_t *settings,
                        size_t settings_len, uint8_t command, const uint8_t *bytes, size_t bytes_len,
                        bool link_up);

@@ -22,7 +22,7 @@ const RECEIVE_ENABLE: u8 = F | L | 0b0000_1010;
 
 const MOST_BYTES: u64 = 1536;
 const FEWEST_BYTES: u64 = 17;
-const FILLED_TO: u64 = 64;
+const FILLED_TO: u64 = 60;
 
 const SHORT_FORM: usize = 1;
 const LONG_FORM: usize = 14;

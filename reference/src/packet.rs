@@ -3,8 +3,9 @@
 
 /// The longest packet; bytes of the store past it never change.
 pub const LONGEST_PACKET: u64 = 1536;
-/// The shortest packet on the network; a shorter one is filled up to it.
-pub const SHORTEST_SENT: u64 = 64;
+/// The shortest packet that the network part is handed, to which it adds four
+/// check bytes; a shorter one is filled up to it.
+pub const SHORTEST_SENT: u64 = 60;
 
 /// Writes a fragment at a place of the store; writes nothing where its end
 /// would lie past the longest packet or past the store.

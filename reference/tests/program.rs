@@ -131,15 +131,15 @@ fn pattern(size: usize, seed: usize) -> Vec<u8> {
 fn answers_about_a_store() {
     let mut written = pattern(1536, 0xf0);
     written[700..703].copy_from_slice(&[1, 2, 3]);
-    let mut filled = pattern(64, 5);
+    let mut filled = pattern(60, 5);
     filled[17..].fill(0);
     let part = digest(&pattern(1535, 9));
     for (case, answer) in [
         ("append 0600 f0 00000000000002bc 010203", digest(&written)),
         ("append 0600 f0 00000000000005fe 010203", digest(&pattern(1536, 0xf0))),
         ("append 0000 f0 0000000000000000 -", "00000001".to_string()),
-        ("fill 0040 05 0000000000000011", digest(&filled)),
-        ("fill 003f 05 0000000000000011", digest(&pattern(63, 5))),
+        ("fill 003c 05 0000000000000011", digest(&filled)),
+        ("fill 003b 05 0000000000000011", digest(&pattern(59, 5))),
         ("shown 0600 09 00000000000005ff", format!("05ff {part}")),
         ("shown 0600 09 0000000000000601", "0000 00000001".to_string()),
     ] {
@@ -177,13 +177,13 @@ fn answers_about_what_is_carried() {
     store[..3].copy_from_slice(&[1, 2, 3]);
     let after_open = digest(&store);
     store[3..18].copy_from_slice(&pattern(15, 0x30));
-    store[18..64].fill(0);
+    store[18..60].fill(0);
     let after_sent = digest(&store);
     let settings = "410000000000000000000000000000";
     let cases = format!(
         "show\npacket 0000000000000001\nsend c4 01 00\n\
          start {before} 0640 07 {fresh}\nsend 84 00 010203\nsend-pattern 44 01 000f 30\n\
-         packet 0000000000000040\nsend ca 00 41\nshow\n"
+         packet 000000000000003c\nsend ca 00 41\nshow\n"
     );
     let zeros = state(&[], 0);
     let expected = [
@@ -192,8 +192,8 @@ fn answers_about_what_is_carried() {
         format!("0c 0000 {} 00000001 00000001", digest_of_field(&zeros)),
         "01".to_string(),
         format!("00 0000 {} {after_open} {}", digest_of_field(&open), digest_of_field(fresh)),
-        format!("01 0040 {} {after_sent} {}", digest_of_field(&sent), digest_of_field(fresh)),
-        format!("0040 {}", digest(&store[..64])),
+        format!("01 003c {} {after_sent} {}", digest_of_field(&sent), digest_of_field(fresh)),
+        format!("003c {}", digest(&store[..60])),
         format!("0b 0000 {} {after_sent} {}", digest_of_field(&taken), digest_of_field(settings)),
         format!("{taken} {settings}"),
     ];

@@ -88,13 +88,18 @@ fn marked_examples() {
 fn sent_lengths_and_bytes() {
     let mut kept = Kept::fresh(240);
     let whole = Transaction { command: 0xc4, data: data(17), link_up: true };
-    assert_eq!(kept.transact(&whole), (1, 64));
-    assert_eq!(shown(&kept.store, 64), [&data(17)[..], &[0; 47]].concat());
-    assert_eq!(kept.store[64..], [0xdd; 1476]);
+    assert_eq!(kept.transact(&whole), (1, 60));
+    assert_eq!(shown(&kept.store, 60), [&data(17)[..], &[0; 43]].concat());
+    assert_eq!(kept.store[60..], [0xdd; 1480]);
 
-    let whole = Transaction { data: data(65), ..whole };
-    assert_eq!(kept.transact(&whole), (1, 65));
-    assert_eq!(shown(&kept.store, 65), data(65));
+    for (bytes, sent) in [(59, 60), (60, 60), (61, 61)] {
+        let mut kept = Kept::fresh(240);
+        let whole = Transaction { command: 0xc4, data: data(bytes), link_up: true };
+        assert_eq!(kept.transact(&whole), (1, sent), "{bytes}");
+        let fill = vec![0; sent as usize - bytes];
+        assert_eq!(shown(&kept.store, u64::from(sent)), [data(bytes), fill].concat(), "{bytes}");
+        assert!(kept.store[sent as usize..].iter().all(|byte| *byte == 0xdd), "{bytes}");
+    }
 
     let mut packet = Vec::new();
     for (command, bytes) in
@@ -186,7 +191,7 @@ fn numbers_and_states_are_the_same_thing() {
 
 #[test]
 fn the_store_at_any_place() {
-    for size in [0, 1, 63, 64, 1535, 1536, 1537, 1600] {
+    for size in [0, 1, 59, 60, 1535, 1536, 1537, 1600] {
         for at in (0..1700).chain([1 << 32, 1 << 63, u64::MAX - 2, u64::MAX]) {
             let mut store = vec![0xdd; size];
             append(&mut store, at, &[1, 2, 3]);
@@ -201,7 +206,7 @@ fn the_store_at_any_place() {
             let mut store = vec![0xdd; size];
             fill(&mut store, at);
             for (place, byte) in store.iter().enumerate() {
-                let filled = size >= 64 && place < 64 && place as u64 >= at;
+                let filled = size >= 60 && place < 60 && place as u64 >= at;
                 assert_eq!(*byte, if filled { 0 } else { 0xdd }, "{size} {at}");
             }
 

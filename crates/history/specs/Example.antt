@@ -39,6 +39,6 @@ pub record AsPrinted : Type 0 where
       cells (itemsOf (setupFor 32) entries) lines
       ≡ (1, 1, 20) ∷ (1, 1, 32) ∷ (0, 0, 0) ∷ (0, 0, 0) ∷ (0, 0, 0) ∷ (1, 2, 15) ∷ (0, 0, 0) ∷ (0, 1, 3) ∷ (0, 0, 0) ∷ (0, 0, 0) ∷ (0, 1, 0) ∷ (0, 0, 0) ∷ []
   pub lines-are : linesOf (setupFor 32) entries ≡ row sent ∷ row superseded ∷ row short ∷ row short ∷ row aborted ∷ taken ∷ []
-  pub replies-are : repliesAfter (setupFor 32) [] entries ≡ (1, 64) ∷ (0, 0) ∷ (0, 0) ∷ (5, 0) ∷ (2, 0) ∷ (11, 0) ∷ []
+  pub replies-are : repliesAfter (setupFor 32) [] entries ≡ (1, 60) ∷ (0, 0) ∷ (0, 0) ∷ (5, 0) ∷ (2, 0) ∷ (11, 0) ∷ []
   pub settings-are : settingsOf (takenForms (reverse entries)) ≡ 0x41 ∷ replicate 14 0
   pub total-is : total entries ≡ 6

@@ -15,9 +15,9 @@ maxPacket = 1536
 abbrev pub minPacket : ℕ
 minPacket = 17
 
--- a shorter packet is filled up to this (manual 4.3)
+-- a shorter packet is filled up to this: the least frame of 802.3, 64 bytes, without the four check bytes (manual 4.3)
 abbrev pub minSent : ℕ
-minSent = 64
+minSent = 60
 
 -- a fragment goes behind the bytes so far, and is not written where it would end past 1536 (manual 4.1, 4.2)
 unfoldable pub appended : List ℕ → ℕ → List ℕ → List ℕ

@@ -11,8 +11,9 @@ pub const MAX_PACKET: u64 = 1536;
 // A packet of fewer bytes is too short to be sent.
 pub const MIN_PACKET: u64 = 17;
 
-// A shorter packet is filled up to this before it is sent.
-pub const MIN_SENT: u64 = 64;
+// A shorter packet is filled up to this before it is sent: 802.3 asks for frames of at least 64
+// bytes, of which the network part adds the four check bytes.
+pub const MIN_SENT: u64 = 60;
 
 // Writes the fragment behind the first `at` bytes. Changes nothing where that would end past
 // MAX_PACKET or past the store.

@@ -74,9 +74,13 @@ runOn state store settings (t ∷ rest) =
       settings = r .settings;
     }
 
--- maximum 240, all fresh; the store is full of ones, so that a fill shows
+-- bytes of the store to which nothing was written: ones, so that a fill shows
+abbrev pub unwritten : (size : ℕ) → List ℕ
+unwritten size = replicate size 0xFF
+
+-- maximum 240, all fresh
 abbrev pub run : List Transaction → Run
-run = runOn (made 240 .state) (replicate 1536 0xFF) (freshened (replicate 15 0xFF) .settings)
+run = runOn (made 240 .state) (unwritten 1536) (freshened (replicate 15 0xFF) .settings)
 
 -- a row that has counted (manual 8.2)
 pub record Line : Type 0 where
@@ -118,7 +122,8 @@ refused reason = record { response = 0x0001; reason = reason; «in_force» = 0 }
 pub data Case : Type 0 where
   answered : List Sends → List Answer → Case
   counted : List Sends → List Answer → State → Case
-  shown : List Sends → List Answer → (packet : List ℕ) → Case
+  -- the bytes with which the store begins afterwards
+  stored : List Sends → List Answer → (start : List ℕ) → Case
   -- Receive Enables, and the settings that they leave
   enabled : (forms : List (List ℕ)) → List Answer → (settings : List ℕ) → Case
   -- a fragment of 20 bytes, to a state with a store and settings of these: the answer, and nothing changes
@@ -141,14 +146,14 @@ pub data Case : Type 0 where
 abbrev pub Holds : Case → Type 0
 Holds (answered asked expected) = run (patterned 0 asked) .answers ≡ expected
 Holds (counted asked expected state) = (run (patterned 0 asked) .answers ≡ expected) × (run (patterned 0 asked) .state ≡ state)
-Holds (shown asked expected packet) = (run (patterned 0 asked) .answers ≡ expected) × (take (length packet) (run (patterned 0 asked) .store) ≡ packet)
+Holds (stored asked expected start) = (run (patterned 0 asked) .answers ≡ expected) × (take (length start) (run (patterned 0 asked) .store) ≡ start)
 Holds (enabled forms expected settings) = (run (enables forms) .answers ≡ expected) × (run (enables forms) .settings ≡ settings)
 Holds (rejected state storeSize settings answer) =
     runOn state (replicate storeSize 0) settings (patterned 0 (up 0x84 20 ∷ []))
     ≡ record { answers = (answer, 0) ∷ []; state = state; store = replicate storeSize 0; settings = settings }
 Holds (resumed state settings asked expected left) =
-    (runOn state (replicate 1536 0xFF) settings (patterned 0 asked) .answers ≡ expected)
-    × (runOn state (replicate 1536 0xFF) settings (patterned 0 asked) .state ≡ left)
+    (runOn state (unwritten 1536) settings (patterned 0 asked) .answers ≡ expected)
+    × (runOn state (unwritten 1536) settings (patterned 0 asked) .state ≡ left)
 Holds (accountIs sound state) = accountSound (state .account) ≡ sound
 Holds (maximum asked answer is) = (made asked .answer ≡ answer) × (made asked .state ≡ counting is [] 0 0 0)
 Holds (addresses settings flash mac ipv4) =

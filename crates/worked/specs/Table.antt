@@ -9,7 +9,7 @@ use Rattle.status.specs.declared.Fields.{Fields}
 use Rattle.record.specs.Transaction.{transaction}
 use Rattle.state.specs.declared.State.{State}
 use Rattle.state.specs.Account.{sent, superseded, flushed, broken, over, short, linkdown, aborted, badlength}
-use Rattle.worked.specs.Cases.{Case, answered, counted, shown, enabled, rejected, resumed, accountIs, maximum, addresses, link, writes, reads, journal, AllHold, up, down, pattern, line, counting, withOpen, accepted, refused}
+use Rattle.worked.specs.Cases.{Case, answered, counted, stored, enabled, rejected, resumed, accountIs, maximum, addresses, link, writes, reads, journal, AllHold, up, down, pattern, unwritten, line, counting, withOpen, accepted, refused}
 
 -- length 64, VLAN 0, decision 7 matched (manual 6.1)
 abbrev pub decision7 : Fields
@@ -65,10 +65,10 @@ unsoundSettings settings = rejected (counting 240 [] 0 0 0) 1536 settings 13
 abbrev pub cases : List Case
 cases =
     -- W1, W2: the least packet that is sent, and one byte less
-    shown (up 0xC4 17 ∷ []) ((1, 64) ∷ []) (pattern 0 17 ++ replicate 47 0)
+    stored (up 0xC4 17 ∷ []) ((1, 60) ∷ []) (pattern 0 17 ++ replicate 43 0 ++ unwritten 4)
     ∷ answered (up 0xC4 16 ∷ []) ((5, 0) ∷ [])
     -- W3, W4: the largest packet that is sent, and one byte more
-    ∷ shown (up 0x84 240 ∷ replicate 5 (up 0x04 240) ++ (up 0x44 96 ∷ [])) (replicate 6 (0, 0) ++ ((1, 1536) ∷ [])) (pattern 0 1536)
+    ∷ stored (up 0x84 240 ∷ replicate 5 (up 0x04 240) ++ (up 0x44 96 ∷ [])) (replicate 6 (0, 0) ++ ((1, 1536) ∷ [])) (pattern 0 1536)
     ∷ counted (up 0x84 240 ∷ replicate 5 (up 0x04 240) ++ (up 0x44 97 ∷ [])) (replicate 6 (0, 0) ++ ((4, 0) ∷ [])) (counting 240 (line over 1 7 1537 ∷ []) 0 0 7)
     -- W5: a middle fragment that meets no open packet
     ∷ answered (up 0x04 3 ∷ []) ((2, 0) ∷ [])
@@ -78,7 +78,7 @@ cases =
     ∷ counted (up 0x84 20 ∷ up 0x04 0 ∷ up 0x44 20 ∷ []) ((0, 0) ∷ (3, 0) ∷ (2, 0) ∷ []) (counting 240 (line broken 1 1 20 ∷ line aborted 0 1 20 ∷ line badlength 0 1 0 ∷ []) 0 0 3)
     -- W8: the link counts at the Last
     ∷ counted (up 0x84 20 ∷ down 0x44 20 ∷ []) ((0, 0) ∷ (6, 0) ∷ []) (counting 240 (line linkdown 1 2 40 ∷ []) 0 0 2)
-    ∷ counted (down 0x84 20 ∷ up 0x44 20 ∷ []) ((0, 0) ∷ (1, 64) ∷ []) (counting 240 (line sent 1 2 40 ∷ []) 0 0 2)
+    ∷ counted (down 0x84 20 ∷ up 0x44 20 ∷ []) ((0, 0) ∷ (1, 60) ∷ []) (counting 240 (line sent 1 2 40 ∷ []) 0 0 2)
     -- W9 to W12: Set Link
     ∷ link 0x219 false Copper (accepted 0x219)
     ∷ link 0x109 false Copper (refused 0x0002)
@@ -147,16 +147,23 @@ further =
     ∷ writes (indices false 1 true 7) 15 (replicate 8 0)
     ∷ writes (indices true 15 false 1) 15 (replicate 8 0)
     -- a First while a packet is open
-    ∷ counted (up 0x84 20 ∷ up 0xC4 20 ∷ []) ((0, 0) ∷ (1, 64) ∷ []) (counting 240 (line sent 1 1 20 ∷ line superseded 1 1 20 ∷ []) 0 0 2)
+    ∷ counted (up 0x84 20 ∷ up 0xC4 20 ∷ []) ((0, 0) ∷ (1, 60) ∷ []) (counting 240 (line sent 1 1 20 ∷ line superseded 1 1 20 ∷ []) 0 0 2)
     -- a First of a bad length while a packet is open breaks it: without bytes, and with one byte too many
     ∷ counted (up 0x84 20 ∷ up 0x84 0 ∷ []) ((0, 0) ∷ (3, 0) ∷ []) (counting 240 (line broken 1 1 20 ∷ line badlength 0 1 0 ∷ []) 0 0 2)
     ∷ counted (up 0x84 20 ∷ up 0xC4 241 ∷ []) ((0, 0) ∷ (3, 0) ∷ []) (counting 240 (line broken 1 1 20 ∷ line badlength 0 1 0 ∷ []) 0 0 2)
     -- an unknown command flushes with F and L, and with one of them does not
     ∷ counted (up 0x84 20 ∷ up 0xC0 3 ∷ up 0x44 20 ∷ []) ((0, 0) ∷ (7, 0) ∷ (2, 0) ∷ []) (counting 240 (line flushed 1 1 20 ∷ line aborted 0 1 20 ∷ []) 0 1 3)
-    ∷ counted (up 0x84 20 ∷ up 0x80 0 ∷ up 0x44 20 ∷ []) ((0, 0) ∷ (7, 0) ∷ (1, 64) ∷ []) (counting 240 (line sent 1 2 40 ∷ []) 0 1 3)
-    ∷ counted (up 0x84 20 ∷ up 0x40 0 ∷ up 0x44 20 ∷ []) ((0, 0) ∷ (7, 0) ∷ (1, 64) ∷ []) (counting 240 (line sent 1 2 40 ∷ []) 0 1 3)
-    -- totals one below, at and above the least sent length
-    ∷ answered (up 0xC4 63 ∷ up 0xC4 64 ∷ up 0xC4 65 ∷ []) ((1, 64) ∷ (1, 64) ∷ (1, 65) ∷ [])
+    ∷ counted (up 0x84 20 ∷ up 0x80 0 ∷ up 0x44 20 ∷ []) ((0, 0) ∷ (7, 0) ∷ (1, 60) ∷ []) (counting 240 (line sent 1 2 40 ∷ []) 0 1 3)
+    ∷ counted (up 0x84 20 ∷ up 0x40 0 ∷ up 0x44 20 ∷ []) ((0, 0) ∷ (7, 0) ∷ (1, 60) ∷ []) (counting 240 (line sent 1 2 40 ∷ []) 0 1 3)
+    -- totals one below, at and one above the least sent length, whole and in fragments: the fill, and the bytes behind it as they were
+    ∷ stored (up 0xC4 59 ∷ []) ((1, 60) ∷ []) (pattern 0 59 ++ 0 ∷ unwritten 4)
+    ∷ stored (up 0xC4 60 ∷ []) ((1, 60) ∷ []) (pattern 0 60 ++ unwritten 4)
+    ∷ stored (up 0xC4 61 ∷ []) ((1, 61) ∷ []) (pattern 0 61 ++ unwritten 3)
+    ∷ stored (up 0x84 20 ∷ up 0x04 20 ∷ up 0x44 19 ∷ []) ((0, 0) ∷ (0, 0) ∷ (1, 60) ∷ []) (pattern 0 59 ++ 0 ∷ unwritten 4)
+    ∷ stored (up 0x84 59 ∷ up 0x44 1 ∷ []) ((0, 0) ∷ (1, 60) ∷ []) (pattern 0 60 ++ unwritten 4)
+    ∷ stored (up 0x84 1 ∷ up 0x04 59 ∷ up 0x44 1 ∷ []) ((0, 0) ∷ (0, 0) ∷ (1, 61) ∷ []) (pattern 0 61 ++ unwritten 3)
+    -- a packet that is discarded gets no fill
+    ∷ stored (down 0xC4 59 ∷ []) ((6, 0) ∷ []) (pattern 0 59 ++ unwritten 5)
     -- the records of a journal, with the link up and down
     ∷ journal (transaction 0xC4 (5 ∷ 6 ∷ []) true ∷ transaction 0xCA (0x41 ∷ []) false ∷ []) (0xC4 ∷ 1 ∷ 2 ∷ 5 ∷ 6 ∷ 0xCA ∷ 0 ∷ 1 ∷ 0x41 ∷ [])
     ∷ []
@@ -191,8 +198,8 @@ soundness =
     -- a maximum of 0
     ∷ unsound (counting 0 [] 0 0 0)
     -- sound settings: both addresses kept, and CBDM with the MAC alone
-    ∷ resumed (counting 240 [] 0 0 0) (holding 0x41 0x03) (up 0xC4 20 ∷ []) ((1, 64) ∷ []) (counting 240 (line sent 1 1 20 ∷ []) 0 0 1)
-    ∷ resumed (counting 240 [] 0 0 0) (holding 0xC1 0x01) (up 0xC4 20 ∷ []) ((1, 64) ∷ []) (counting 240 (line sent 1 1 20 ∷ []) 0 0 1)
+    ∷ resumed (counting 240 [] 0 0 0) (holding 0x41 0x03) (up 0xC4 20 ∷ []) ((1, 60) ∷ []) (counting 240 (line sent 1 1 20 ∷ []) 0 0 1)
+    ∷ resumed (counting 240 [] 0 0 0) (holding 0xC1 0x01) (up 0xC4 20 ∷ []) ((1, 60) ∷ []) (counting 240 (line sent 1 1 20 ∷ []) 0 0 1)
     -- the lowest and the highest bit that is never kept; CBDM with the IPv4 alone, and with none; control bytes that are not allowed
     ∷ unsoundSettings (holding 0x41 0x04)
     ∷ unsoundSettings (holding 0x41 0x80)

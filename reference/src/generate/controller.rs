@@ -57,7 +57,7 @@ impl Controller {
     fn fragment(&mut self) -> Drawn {
         let first = !self.sending;
         if first {
-            let ends = [1, 16, 17, 40, 63, 64, 65, 300, 1535, 1536, 1537, 1700];
+            let ends = [1, 16, 17, 40, 59, 60, 61, 300, 1535, 1536, 1537, 1700];
             // Packets of so many fragments that a list would hold only one of
             // them are drawn seldom.
             let most = if self.random.one_in(4) { u64::MAX } else { 70.max(12 * self.maximum) };

@@ -79,7 +79,7 @@ fn random_list(cases: &mut Cases, seed: u64, maximum: u64, calm: u64, length: us
         });
         if number % SHOWN_EVERY == 0 || number == length {
             cases.case(show());
-            let asked = controller.random.pick(&[64, 65, 200, 1535, 1536, 1537]);
+            let asked = controller.random.pick(&[60, 61, 200, 1535, 1536, 1537]);
             cases.case(packet(asked));
         }
     }

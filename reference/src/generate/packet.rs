@@ -9,7 +9,7 @@ const SEED: u64 = 0x0000_9ac4;
 const STORE_SEED: u8 = 0x31;
 const FRAGMENT: [u8; 9] = [0xf1, 0xf2, 0xf3, 0xf4, 0xf5, 0xf6, 0xf7, 0xf8, 0xf9];
 
-const STORES: [u16; 12] = [0, 1, 9, 16, 63, 64, 65, 1535, 1536, 1537, 1600, 2048];
+const STORES: [u16; 13] = [0, 1, 9, 16, 59, 60, 61, 64, 1535, 1536, 1537, 1600, 2048];
 
 /// Far beyond any store, where a sum with a length may wrap round.
 const HUGE: [u64; 7] =
@@ -30,9 +30,9 @@ const APPENDS: [(&str, u16, u64, usize); 30] = [
     ("one byte at 1536 of a store of 2048: nothing", 2048, 1536, 1),
     ("ending at 1535 of a store of 1535: written", 1535, 1526, 9),
     ("ending at 1536 of a store of 1535, past the store: nothing", 1535, 1527, 9),
-    ("ending at 63 of a store of 63: written", 63, 54, 9),
-    ("ending at 64 of a store of 63, past the store: nothing", 63, 55, 9),
-    ("ending at 64 of a store of 64: written", 64, 55, 9),
+    ("ending at 59 of a store of 59: written", 59, 50, 9),
+    ("ending at 60 of a store of 59, past the store: nothing", 59, 51, 9),
+    ("ending at 60 of a store of 60: written", 60, 51, 9),
     ("into a store of no bytes: nothing", 0, 0, 9),
     ("no bytes into a store of no bytes: nothing", 0, 0, 0),
     ("no bytes at 0: nothing", 1536, 0, 0),
@@ -51,22 +51,22 @@ const APPENDS: [(&str, u16, u64, usize); 30] = [
 
 /// Name, size of the store, length of the packet.
 const FILLS: [(&str, u16, u64); 18] = [
-    ("length 0: 64 zeros", 1536, 0),
-    ("length 1: bytes 1 to 63 zero", 1536, 1),
-    ("length 16: bytes 16 to 63 zero", 1536, 16),
-    ("length 17: bytes 17 to 63 zero", 1536, 17),
-    ("length 63: byte 63 zero", 1536, 63),
-    ("length 64: nothing", 1536, 64),
-    ("length 65: nothing", 1536, 65),
+    ("length 0: 60 zeros", 1536, 0),
+    ("length 1: bytes 1 to 59 zero", 1536, 1),
+    ("length 16: bytes 16 to 59 zero", 1536, 16),
+    ("length 17: bytes 17 to 59 zero", 1536, 17),
+    ("length 59: byte 59 zero", 1536, 59),
+    ("length 60: nothing", 1536, 60),
+    ("length 61: nothing", 1536, 61),
     ("length 1536: nothing", 1536, 1536),
     ("length 2 to the power of 64 less 1: nothing", 1536, u64::MAX),
     ("length 2 to the power of 32, which cut would be 0: nothing", 1536, 1 << 32),
-    ("length 0, store of 64: 64 zeros", 64, 0),
-    ("length 17, store of 64: bytes 17 to 63 zero", 64, 17),
-    ("length 63, store of 64: byte 63 zero", 64, 63),
-    ("length 0, store of 63: nothing", 63, 0),
-    ("length 17, store of 63: nothing", 63, 17),
-    ("length 63, store of 63: nothing", 63, 63),
+    ("length 0, store of 60: 60 zeros", 60, 0),
+    ("length 17, store of 60: bytes 17 to 59 zero", 60, 17),
+    ("length 59, store of 60: byte 59 zero", 60, 59),
+    ("length 0, store of 59: nothing", 59, 0),
+    ("length 17, store of 59: nothing", 59, 17),
+    ("length 59, store of 59: nothing", 59, 59),
     ("length 0, store of no bytes: nothing", 0, 0),
     ("length 17, store of no bytes: nothing", 0, 17),
 ];
@@ -75,7 +75,7 @@ const FILLS: [(&str, u16, u64); 18] = [
 const SHOWN: [(&str, u16, u64); 20] = [
     ("length 0: an empty part", 1536, 0),
     ("length 1: the first byte", 1536, 1),
-    ("length 64: 64 bytes", 1536, 64),
+    ("length 60: 60 bytes", 1536, 60),
     ("length 1535: 1535 bytes", 1536, 1535),
     ("length 1536: 1536 bytes", 1536, 1536),
     ("length 1537, above the store: an empty part", 1536, 1537),
@@ -85,18 +85,18 @@ const SHOWN: [(&str, u16, u64); 20] = [
     ("length 1537, store of 1537, above the longest packet: an empty part", 1537, 1537),
     ("length 1535, store of 1535: 1535 bytes", 1535, 1535),
     ("length 1536, store of 1535, above the store: an empty part", 1535, 1536),
-    ("length 63, store of 63: 63 bytes", 63, 63),
-    ("length 64, store of 63, above the store: an empty part", 63, 64),
+    ("length 59, store of 59: 59 bytes", 59, 59),
+    ("length 60, store of 59, above the store: an empty part", 59, 60),
     ("length 0, store of no bytes: an empty part", 0, 0),
     ("length 1, store of no bytes: an empty part", 0, 1),
     ("length 2 to the power of 64 less 1: an empty part", 1536, u64::MAX),
     ("length 2 to the power of 63: an empty part", 1536, 1 << 63),
     (
-        "length 2 to the power of 32 and 64, which cut would be 64: an empty part",
+        "length 2 to the power of 32 and 60, which cut would be 60: an empty part",
         1536,
-        0x1_0000_0040,
+        0x1_0000_003c,
     ),
-    ("length 2 to the power of 16 and 64, which cut would be 64: an empty part", 1536, 0x1_0040),
+    ("length 2 to the power of 16 and 60, which cut would be 60: an empty part", 1536, 0x1_003c),
 ];
 
 /// Adds the cases of this subject.
@@ -133,13 +133,13 @@ fn sweeps(cases: &mut Cases) {
     }
     cases.group("Store: fragments at places far beyond");
     for at in HUGE {
-        for (store, bytes) in [(0, 1), (64, 9), (1536, 9), (2048, 8)] {
+        for (store, bytes) in [(0, 1), (60, 9), (1536, 9), (2048, 8)] {
             cases.case(append(store, STORE_SEED, at, &FRAGMENT[..bytes]));
         }
     }
     cases.group("Store: fill and part for each store and lengths around its edges");
     for store in STORES {
-        let edges = [0, 1, 16, 17, 62, 63, 64, 65, 1535, 1536, 1537, 2047, 2048, 2049];
+        let edges = [0, 1, 16, 17, 58, 59, 60, 61, 64, 1535, 1536, 1537, 2047, 2048, 2049];
         let own = [u64::from(store), u64::from(store) + 1];
         for length in edges.into_iter().chain(own).chain(HUGE) {
             cases.case(of_length("fill", store, STORE_SEED, length));

@@ -138,7 +138,7 @@ static size_t draw_fragment_length(struct source *source, const tco_state *state
         return PICK(source, 0, 1, 14, maximum - 1, maximum, maximum + 1, 240, 241, 255, 256, 257,
                     DATA_MOST);
     case 1:
-        to_edge = PICK(source, 16, 17, 63, 64, 65, 1535, 1536, 1537) - state->account.open_bytes;
+        to_edge = PICK(source, 16, 17, 59, 60, 61, 1535, 1536, 1537) - state->account.open_bytes;
         return to_edge <= maximum ? to_edge : maximum;
     case 2:
         return 1 + below(source, maximum);

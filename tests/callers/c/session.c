@@ -156,8 +156,8 @@ static void shown(struct kept *kept)
 {
     size_t store_length = lent_store_length(kept);
     size_t length =
-        PICK(kept->source, 0, 1, 64, 1535, 1536, 1537, store_length - 1, store_length,
-             store_length + 1, (size_t)1 << 32 | 64, SIZE_MAX, below(kept->source, STORE_MOST));
+        PICK(kept->source, 0, 1, 60, 1535, 1536, 1537, store_length - 1, store_length,
+             store_length + 1, (size_t)1 << 32 | 60, SIZE_MAX, below(kept->source, STORE_MOST));
     const uint8_t *store = lend(kept, &of_store, kept->store, store_length);
     size_t got = tco_shown(store, store_length, length);
     same(kept, "length", got, second_shown(kept->store, store_length, length));

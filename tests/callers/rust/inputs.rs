@@ -183,7 +183,7 @@ fn fragment_length(random: &mut Random, state: &State) -> usize {
         2 => 1 + random.below(maximum),
         3 => {
             let edges =
-                [16, 17, 63, 64, 65, LONGEST_PACKET - 1, LONGEST_PACKET, LONGEST_PACKET + 1];
+                [16, 17, 59, 60, 61, LONGEST_PACKET - 1, LONGEST_PACKET, LONGEST_PACKET + 1];
             random.pick(&edges).saturating_sub(state.account.open_bytes).min(maximum)
         }
         _ => maximum,

@@ -147,7 +147,7 @@ impl Session {
         let store_length = self.store_length();
         let any = self.random.below(inputs::STORE_MOST as u64) as usize;
         let edges = [0, 1, STORE_BYTES, STORE_BYTES + 1, store_length, store_length + 1, any];
-        let beyond = [1 << 16 | 64, 1 << 32 | 64, usize::MAX];
+        let beyond = [1 << 16 | 60, 1 << 32 | 60, usize::MAX];
         let length = if self.random.one_in(8) {
             self.random.pick(&beyond)
         } else {

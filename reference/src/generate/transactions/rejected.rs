@@ -47,7 +47,7 @@ fn list(cases: &mut Cases, name: &str, state: &State, store: u16, settings: &[u8
 fn room(cases: &mut Cases) {
     cases.group("Transactions: 12, store or settings too short");
     let state = fresh(240).1;
-    for store in [0, 1, 64, 240, 1535, 1536, 1537, 2047, 2048] {
+    for store in [0, 1, 60, 240, 1535, 1536, 1537, 2047, 2048] {
         let answers = if store < STORE_BYTES { [12; 7] } else { COUNTED };
         let name = format!("store of {store} bytes");
         list(cases, &name, &state, store, &FRESH_SETTINGS, &one_of_each(answers));

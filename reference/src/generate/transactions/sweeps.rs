@@ -120,11 +120,13 @@ fn receive_enables(cases: &mut Cases) {
     }
 }
 
-/// Totals on both sides of 17, 64 and 1536, in as few fragments as there can be.
+/// Totals on both sides of 17, 60 and 1536, in as few fragments as there can be.
 fn totals(cases: &mut Cases) {
     cases.group("Transactions: totals at the edges");
     for maximum in [1, 17, 32, 239, 240] {
-        for total in [1, 2, 15, 16, 17, 18, 62, 63, 64, 65, 66, 1534, 1535, 1536, 1537, 1538] {
+        for total in
+            [1, 2, 15, 16, 17, 18, 58, 59, 60, 61, 62, 63, 64, 1534, 1535, 1536, 1537, 1538]
+        {
             // A packet of many single bytes would take too much room here.
             if total > 100 * maximum {
                 continue;
@@ -146,26 +148,26 @@ fn totals(cases: &mut Cases) {
 
 /// Packets of the same total cut in other ways, one after the other.
 fn cuts(cases: &mut Cases) {
-    for total in [17, 63, 64, 65, 1536, 1537] {
+    for total in [17, 59, 60, 61, 1536, 1537] {
         cases.group(&format!("Transactions: packets of {total} bytes cut in many ways"));
         cases.case(start(&fresh(240).1, STORE_BYTES, &FRESH_SETTINGS));
-        for size in [1, 2, 7, 16, 17, 21, 31, 32, 60, 63, 64, 96, 120, 128, 192, 239, 240] {
+        for size in [1, 2, 7, 16, 17, 20, 30, 32, 59, 60, 61, 96, 120, 128, 192, 239, 240] {
             if total > 100 * size {
                 continue;
             }
             let list = cut(total, size, true);
             cases.name(&format!("fragments of {size} and the rest: {}", answers(&list)));
             sends(cases, &list);
-            cases.case(packet(u64::from(total).max(64)));
+            cases.case(packet(u64::from(total).max(60)));
         }
-        for first in [1, 16, 17, 33, 62] {
+        for first in [1, 16, 17, 33, 58] {
             if first >= total || total > 240 {
                 continue;
             }
             let list = [up(0x84, first, 0), up(0x44, total - first, 1)];
             cases.name(&format!("a First of {first} and a Last of the rest: {}", answers(&list)));
             sends(cases, &list);
-            cases.case(packet(u64::from(total).max(64)));
+            cases.case(packet(u64::from(total).max(60)));
         }
         cases.case(show());
     }

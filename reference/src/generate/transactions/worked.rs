@@ -4,7 +4,7 @@ use super::{down, enable, list_from_fresh, packet, send, show, up, Named};
 use crate::generate::Cases;
 
 const WORKED: [Named; 10] = [
-    ("W1: 0xC4 with 17 bytes, sent length 64", 240, &[up(0xc4, 17, 1)]),
+    ("W1: 0xC4 with 17 bytes, sent length 60", 240, &[up(0xc4, 17, 1)]),
     ("W2: 0xC4 with 16 bytes", 240, &[up(0xc4, 16, 5)]),
     (
         "W3: first and five middles of 240, last of 96, 1536 in all, sent length 1536",
@@ -37,7 +37,7 @@ const WORKED: [Named; 10] = [
     ),
     ("W8: 0x84 link up, 0x44 link down, 20 each", 240, &[up(0x84, 20, 0), down(0x44, 20, 6)]),
     (
-        "W8 the other way about: 0x84 link down, 0x44 link up, sent length 64",
+        "W8 the other way about: 0x84 link down, 0x44 link up, sent length 60",
         240,
         &[down(0x84, 20, 0), up(0x44, 20, 1)],
     ),
@@ -421,19 +421,39 @@ const PAST: [Named; 12] = [
     ),
 ];
 
-const DISCARDED: [Named; 8] = [
+const DISCARDED: [Named; 4] = [
     ("16 bytes, link down: short and not linkdown", 240, &[down(0xc4, 16, 5)]),
     ("17 bytes, link down: linkdown, no fill", 240, &[down(0xc4, 17, 6)]),
     ("1 byte: short, no fill", 240, &[up(0xc4, 1, 5)]),
     ("8 and 8 bytes: short", 240, &[up(0x84, 8, 0), up(0x44, 8, 5)]),
-    ("8 and 9 bytes: sent, filled up to 64", 240, &[up(0x84, 8, 0), up(0x44, 9, 1)]),
-    ("63 bytes: sent, filled up to 64 by one byte", 240, &[up(0xc4, 63, 1)]),
-    ("64 bytes: sent, sent length 64, no fill", 240, &[up(0xc4, 64, 1)]),
-    ("65 bytes: sent, sent length 65, no fill", 240, &[up(0xc4, 65, 1)]),
+];
+
+const FILLED: [Named; 9] = [
+    ("8 and 9 bytes: sent, filled up to 60", 240, &[up(0x84, 8, 0), up(0x44, 9, 1)]),
+    ("59 bytes: sent, filled up to 60 by one byte", 240, &[up(0xc4, 59, 1)]),
+    ("60 bytes: sent, sent length 60, no fill", 240, &[up(0xc4, 60, 1)]),
+    ("61 bytes: sent, sent length 61, no fill", 240, &[up(0xc4, 61, 1)]),
+    (
+        "20, 20 and 19 bytes: sent, filled up to 60 by one byte",
+        20,
+        &[up(0x84, 20, 0), up(0x04, 20, 0), up(0x44, 19, 1)],
+    ),
+    ("59 and 1 bytes: sent, sent length 60, no fill", 240, &[up(0x84, 59, 0), up(0x44, 1, 1)]),
+    (
+        "1, 59 and 1 bytes: sent, sent length 61, no fill",
+        240,
+        &[up(0x84, 1, 0), up(0x04, 59, 0), up(0x44, 1, 1)],
+    ),
+    (
+        "59 bytes after a packet of 64: sent, the fill over its bytes",
+        240,
+        &[up(0xc4, 64, 1), up(0xc4, 59, 1)],
+    ),
+    ("59 bytes, link down: linkdown, no fill", 240, &[down(0xc4, 59, 6)]),
 ];
 
 /// The lists, grouped by title.
-const GROUPS: [(&str, &[Named]); 7] = [
+const GROUPS: [(&str, &[Named]); 8] = [
     ("Transactions: worked examples", &WORKED),
     ("Transactions: slips that have been made", &SLIPS),
     ("Transactions: First and Last", &SEQUENCE),
@@ -441,6 +461,7 @@ const GROUPS: [(&str, &[Named]); 7] = [
     ("Transactions: fragment lengths", &LENGTHS),
     ("Transactions: packets past 1536 bytes", &PAST),
     ("Transactions: short packets and the link", &DISCARDED),
+    ("Transactions: the fill, and the bytes behind it as they were", &FILLED),
 ];
 
 /// Adds the cases of this subject.
