@@ -54,7 +54,7 @@ leftBy kept storeRest settingsRest left =
       sent = kept .sent ++ packetsOf (replyTo (left .result .outcome)) (left .store ++ storeRest);
     }
 
--- what a call leaves is what its contract promises (specs/Contract.antt)
+-- what a call leaves is what its contract promises (specs/Contract.antt), and what one call after another leaves (manual 1.6)
 abbrev pub step : Call → Kept → Kept
 step (transact storeLent settingsLent t) kept = leftBy kept (drop storeLent (kept .store)) (drop settingsLent (kept .settings)) (transactedBy storeLent settingsLent t kept)
 step reads kept = kept

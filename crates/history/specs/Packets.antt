@@ -25,10 +25,11 @@ abbrev pub comparedFrom : (before : ℕ) → List (List ℕ) → List ℕ
 comparedFrom before [] = []
 comparedFrom before (piece ∷ pieces) = if ltb largestTotal (before + length piece) then [] else (piece ++ comparedFrom (before + length piece) pieces)
 
--- the least bytes that are sent, zeros behind the packet's own; with the four check bytes the shortest frame has 64 (manual 4.3)
+-- the least bytes that are sent; with the four check bytes the shortest frame has 64 (manual 4.3)
 abbrev pub filledTo : ℕ
 filledTo = 60
 
+-- a packet that is sent, and zeros behind it up to as many (manual 4.3)
 abbrev pub withFill : List ℕ → List ℕ
 withFill packet = packet ++ replicate (filledTo - length packet) 0
 

@@ -29,7 +29,7 @@ numberOf NoRoom = 12
 numberOf NotSound = 13
 numberOf Full = 14
 
--- the sent length, and 0 where no packet was sent
+-- the sent length, and 0 where no packet was sent (manual 2.4)
 abbrev pub sentLengthOf : Outcome → ℕ
 sentLengthOf Joined = 0
 sentLengthOf (Sent n) = n
@@ -41,6 +41,7 @@ sentLengthOf NoRoom = 0
 sentLengthOf NotSound = 0
 sentLengthOf Full = 0
 
+-- both of these (manual 2.1, 2.4)
 abbrev pub replyTo : Outcome → Reply
 replyTo o = record { answer = numberOf o; sent = sentLengthOf o }
 

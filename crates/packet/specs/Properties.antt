@@ -6,12 +6,12 @@ use mathlib.Core.Path.{_≡_}
 use lib.ListN.{length, getD}
 use Rattle.packet.specs.Store.{maxPacket, minSent, appended, filled}
 
--- as many bytes, and every byte but those from `from` up to `to` as it was
+-- as many bytes, and every byte but those from `from` up to `to` as it was (manual 4.1)
 pub record ChangesOnly (from to : ℕ) (before after : List ℕ) : Type 0 where
   pub same-length : length after ≡ length before
   pub elsewhere : (k : ℕ) → (k < from) ⊎ (to ≤ k) → getD after k 0 ≡ getD before k 0
 
--- no byte changes but those of the fragment or of the fill, none past 1536, and none at all for a fragment that would end past 1536
+-- no byte changes but those of the fragment or of the fill, none past 1536, and none at all for a fragment that would end past 1536 (manual 1.5, 4.1, 4.2, 4.3)
 pub record LeavesTheRest : Type 0 where
   pub appending : (store fragment : List ℕ) (at : ℕ) → ChangesOnly at (at + length fragment) store (appended store at fragment)
   pub appending-too-much : (store fragment : List ℕ) (at : ℕ) → maxPacket < at + length fragment → appended store at fragment ≡ store

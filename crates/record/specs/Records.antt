@@ -9,12 +9,12 @@ use Rattle.record.specs.declared.Found.{Found}
 use Rattle.record.specs.declared.Found.the-variants as found
 use Rattle.record.specs.Transaction.{Transaction, transaction}
 
--- the link byte
+-- the link byte (manual 9.2)
 abbrev pub linkByte : Bool → ℕ
 linkByte true = 1
 linkByte false = 0
 
--- what a writer writes, over numbers: they are bytes where each is below 256, and a record has at most 255 bytes of data
+-- what a writer writes, over numbers: they are bytes where each is below 256, and a record has at most 255 bytes of data (manual 9.2)
 abbrev pub recordOf : Transaction → List ℕ
 recordOf t = t .command ∷ linkByte (t .linkUp) ∷ length (t .bytes) ∷ t .bytes
 
@@ -22,7 +22,7 @@ abbrev pub recordsOf : List Transaction → List ℕ
 recordsOf [] = []
 recordsOf (t ∷ rest) = recordOf t ++ recordsOf rest
 
--- command, link and length
+-- command, link and length (manual 9.2)
 abbrev pub headSize : ℕ
 headSize = 3
 
@@ -36,7 +36,7 @@ foundAt bytes at =
     if ltb (length bytes - at - headSize) (getD bytes (at + 2) 0) then found.Cut else
     found.Whole (getD bytes at 0) (eqb (getD bytes (at + 1) 0) 1) (at + headSize) (at + headSize + getD bytes (at + 2) 0)
 
--- the whole records that some bytes begin with, how many bytes they are, and whether a bad link byte comes next
+-- the whole records that some bytes begin with, how many bytes they are, and whether a bad link byte comes next (manual 9.2, 9.3)
 pub record Records : Type 0 where
   pub transactions : List Transaction
   pub used : ℕ
@@ -53,7 +53,7 @@ one t rest =
       badLink = rest .badLink;
     }
 
--- where the first `skipped` bytes are the data of a record that is counted already
+-- where the first `skipped` bytes are the data of a record that is counted already (manual 9.2)
 unfoldable pub recordsAfter : ℕ → List ℕ → Records
 recordsAfter (suc skipped) [] = none false
 recordsAfter (suc skipped) (byte ∷ rest) = recordsAfter skipped rest
@@ -65,5 +65,6 @@ recordsAfter zero (command ∷ link ∷ size ∷ rest) =
     if ltb (length rest) size then none false else
     one (transaction command (take size rest) (eqb link 1)) (recordsAfter size rest)
 
+-- of all the bytes (manual 9.2)
 abbrev pub recordsIn : List ℕ → Records
 recordsIn bytes = recordsAfter 0 bytes

@@ -16,7 +16,7 @@ completed = 0x0000
 abbrev pub failed : ℕ
 failed = 0x0001
 
--- its reason codes
+-- its reason codes (manual 7.3)
 abbrev pub noReason : ℕ
 noReason = 0x0000
 
@@ -53,11 +53,11 @@ forcedReason word =
     if isSet speed10G word then invalidParameter else
     noReason
 
+-- by whether the link is negotiated or forced (manual 7.1, 7.3)
 unfoldable pub parameterReason : ℕ → ℕ
 parameterReason word = if isSet autoNegotiation word then negotiatedReason word else forcedReason word
 
--- why a word is refused, or no reason: checks 1 to 5 (manual 7.3)
--- A word has 32 bits, so that bits 12 to 31 are what its division by 2 ^ 12 leaves.
+-- why a word is refused, or no reason: checks 1 to 5. A word has 32 bits, so that bits 12 to 31 are what its division by 2 ^ 12 leaves (manual 7.1, 7.3)
 unfoldable pub reason : ℕ → Bool → Media → ℕ
 reason word hostPresent media =
     if hostPresent then hostConflict else
@@ -68,7 +68,7 @@ reason word hostPresent media =
     if anyFits media word pairs then noReason else
     mediaConflict
 
--- check 6: a word that passes all checks comes into force, and a refusal keeps the word in force (manual 7.4)
+-- a word that passes all checks comes into force, and a refusal keeps the word in force (manual 7.4)
 unfoldable pub decided : ℕ → ℕ → Bool → Media → Decision
 decided inForce word hostPresent media =
     if eqb (reason word hostPresent media) noReason then record { response = completed; reason = noReason; «in_force» = word } else

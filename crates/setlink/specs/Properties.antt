@@ -7,6 +7,7 @@ use Rattle.setlink.specs.declared.Decision.{Decision}
 use Rattle.setlink.specs.declared.Media.{Media}
 use Rattle.setlink.specs.Decide.{completed, failed, noReason, decided}
 
+-- an accepted word is in force, and after a refusal the one that was (manual 7.4)
 pub record Settles (inForce word : ℕ) (decision : Decision) : Type 0 where
   pub answered : (decision .response ≡ completed) ⊎ (decision .response ≡ failed)
   pub accepted : decision .response ≡ completed → (decision .reason ≡ noReason) × (decision .«in_force» ≡ word)

@@ -31,11 +31,11 @@ halfDuplex = 8
 abbrev pub fullDuplex : ℕ
 fullDuplex = 9
 
--- no speed is selected
+-- no speed is selected (manual 7.3)
 abbrev pub noSpeed : ℕ → Bool
 noSpeed word = eqb (bits speed10 4 word) 0
 
--- how many speeds are selected, and how many duplexes
+-- how many speeds are selected, and how many duplexes (manual 7.3)
 abbrev pub speeds : ℕ → ℕ
 speeds word = bits speed10 1 word + bits speed100 1 word + bits speed1000 1 word + bits speed10G 1 word
 
@@ -52,16 +52,16 @@ pairs =
     ∷ record { speed = speed1000; duplex = fullDuplex; fibre = true }
     ∷ []
 
--- whether a medium takes a pair of this table
+-- whether a medium takes a pair of this table (manual 7.2)
 unfoldable pub takes : Media → Pair → Bool
 takes Copper pair = true
 takes Fibre pair = pair .fibre
 
--- the medium takes the pair, and the word selects its speed and its duplex
+-- the medium takes the pair, and the word selects its speed and its duplex (manual 7.2, 7.3)
 unfoldable pub fits : Media → ℕ → Pair → Bool
 fits media word pair = takes media pair and isSet (pair .speed) word and isSet (pair .duplex) word
 
--- some pair of a list fits
+-- some pair of a list fits (manual 7.3)
 unfoldable pub anyFits : Media → ℕ → List Pair → Bool
 anyFits media word [] = false
 anyFits media word (pair ∷ rest) = fits media word pair or anyFits media word rest

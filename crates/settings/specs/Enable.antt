@@ -27,7 +27,7 @@ numberOf (Refused refusal) = refusalNumber refusal
 abbrev pub success : ℕ
 success = 0
 
--- an answer, and the settings afterwards
+-- an answer, and the settings afterwards (manual 5.5, 5.6)
 pub record Answered (A : Type 0) : Type 0 where
   pub answer : A
   pub settings : List ℕ

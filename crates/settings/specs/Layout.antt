@@ -57,7 +57,7 @@ ipv4Size = 4
 abbrev pub unreadSize : ℕ
 unreadSize = 3
 
--- what the bytes hold, by name
+-- what the bytes hold, by name (manual 5.3)
 pub record Settings : Type 0 where
   pub control : ℕ
   pub macKept : Bool
@@ -77,11 +77,11 @@ settingsIn bytes =
       unread = part unreadAt unreadSize bytes;
     }
 
--- the byte that tells which addresses are kept
+-- the byte that tells which addresses are kept (manual 5.3)
 abbrev pub keptBits : Bool → Bool → ℕ
 keptBits mac address = (if mac then 1 else 0) + (if address then 2 else 0)
 
--- the bytes with these settings in their first fifteen
+-- the bytes with these settings in their first fifteen (manual 5.3)
 unfoldable pub withSettings : Settings → List ℕ → List ℕ
 withSettings s bytes =
     s .control

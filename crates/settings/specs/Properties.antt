@@ -13,7 +13,7 @@ use Rattle.settings.specs.declared.enable.Refusal.the-variants.{TooShort
 use Rattle.settings.specs.Layout.{size, controlAt, keptAt, macAt, ipv4At, unreadAt, macSize, ipv4Size, unreadSize, keptBits, hasDedicatedMac, respondsToArp, settingsIn, withSettings, sound}
 use Rattle.settings.specs.Enable.{refusalNumber, numberOf, success, Answered, freshened, shortFormSize, longFormSize, receiveEnabled}
 
--- sound settings are what they hold written out, so that to set one part is to change its bytes alone
+-- sound settings are what they hold written out, so that to set one part is to change its bytes alone (manual 5.3)
 abbrev pub Recodes : Type 0
 Recodes = (settings : List ℕ) → sound settings ≡ true → withSettings (settingsIn settings) settings ≡ settings
 
@@ -51,7 +51,7 @@ pub record WritesLong (before form after : List ℕ) : Type 0 where
   pub unread : (k : ℕ) → k < unreadSize → getD after (unreadAt + k) 0 ≡ getD form (11 + k) 0
   pub others : (k : ℕ) → size ≤ k → getD after k 0 ≡ getD before k 0
 
--- a Receive Enable that is taken is one of the two forms
+-- a Receive Enable that is taken is one of the two forms (manual 5.2)
 pub record Writes (before form : List ℕ) (after : Answered Enabled) : Type 0 where
   pub two-forms : numberOf (after .answer) ≡ numberOf Taken → (length form ≡ shortFormSize) ⊎ (length form ≡ longFormSize)
   pub short-form : numberOf (after .answer) ≡ numberOf Taken → length form ≡ shortFormSize → WritesShort before form (after .settings)

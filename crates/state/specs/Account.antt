@@ -43,15 +43,15 @@ badlength = 8
 abbrev pub rowCount : ℕ
 rowCount = 9
 
--- in the place of a row where there is none
+-- in the place of a row where there is none (manual 8.4)
 abbrev pub noRow : ℕ
 noRow = rowCount
 
--- packets, fragments and bytes
+-- packets, fragments and bytes (manual 8.2)
 abbrev pub columns : ℕ
 columns = 3
 
--- the cells of a row, in a grid that is one list
+-- the cells of a row, in a grid that is one list (manual 8.2)
 abbrev pub packetsIn : ℕ → List ℕ → ℕ
 packetsIn row grid = getD grid (row * columns) 0
 
@@ -61,12 +61,12 @@ fragmentsIn row grid = getD grid (row * columns + 1) 0
 abbrev pub bytesIn : ℕ → List ℕ → ℕ
 bytesIn row grid = getD grid (row * columns + 2) 0
 
--- the fragments of the first n rows
+-- the fragments of the first n rows (manual 8.6)
 unfoldable pub allFragments : ℕ → List ℕ → ℕ
 allFragments zero grid = 0
 allFragments (suc row) grid = allFragments row grid + fragmentsIn row grid
 
--- the numbers beside the grid, and an account of both
+-- the numbers beside the grid, and an account of both (manual 8.5)
 abbrev pub besides : (openFragments openBytes taken refused total : ℕ) → Beside
 besides openFragments openBytes taken refused total =
     record { «open_fragments» = openFragments; «open_bytes» = openBytes; taken = taken; refused = refused; total = total }
@@ -78,6 +78,6 @@ accountOf grid beside = record { grid = grid; beside = beside }
 abbrev pub isOpen : Account → Bool
 isOpen a = ltb 0 (a .beside .«open_fragments»)
 
--- an account as the program holds one: its grid has its rows and columns
+-- an account as the program holds one: its grid has its rows and columns (manual 8.2)
 abbrev pub Formed : Account → Type 0
 Formed a = length (a .grid) ≡ rowCount * columns

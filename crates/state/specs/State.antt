@@ -14,15 +14,15 @@ use Rattle.state.specs.Account.{rowCount, columns, besides, accountOf}
 abbrev pub maxMaximum : ℕ
 maxMaximum = 240
 
--- a state with another account
+-- a state with another account (manual 8.8)
 abbrev pub withAccount : State → Account → State
 withAccount s account = record { account = account; maximum = s .maximum }
 
--- the state of a grid, of the numbers beside it and of a maximum
+-- the state of a grid, of the numbers beside it and of a maximum (manual 8.8)
 abbrev pub stateOf : List ℕ → Beside → ℕ → State
 stateOf grid beside maximum = record { account = accountOf grid beside; maximum = maximum }
 
--- nothing is counted
+-- nothing is counted (manual 8.8)
 abbrev pub freshAccount : Account
 freshAccount = accountOf (replicate (rowCount * columns) 0) (besides 0 0 0 0 0)
 
@@ -37,7 +37,7 @@ success = 0
 abbrev pub badMaximum : ℕ
 badMaximum = 16
 
--- the state that is made for a maximum, or for the largest one
+-- the state that is made for a maximum, or for the largest one (manual 1.2)
 unfoldable pub made : ℕ → Made
 made maximum =
     if ltb maximum 1 then record { answer = badMaximum; state = freshState maxMaximum } else

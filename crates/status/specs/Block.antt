@@ -58,10 +58,11 @@ vlanMatchAt = 3
 abbrev pub mngBits : ℕ
 mngBits = 9
 
--- a match bit, by its weight
+-- a match bit, by its weight (manual 6.1)
 abbrev pub flag : Bool → ℕ → ℕ
 flag matched weight = if matched then weight else 0
 
+-- the MNG status (manual 6.1)
 unfoldable pub mngStatus : Fields → ℕ
 mngStatus f =
     flag (f .«decision_match») (2 ^ decisionMatchAt) + f .«decision_index» * 2 ^ decisionIndexAt
@@ -92,11 +93,11 @@ written f =
     if allowed f then record { answer = done; block = block f } else
     record { answer = notAllowed; block = replicate blockSize 0 }
 
--- a field of two bytes, from place i on
+-- a field of two bytes, from place i on (manual 6.1)
 abbrev pub wordAt : List ℕ → ℕ → ℕ
 wordAt b i = getD b i 0 + 256 * getD b (i + 1) 0
 
--- the fields in the words of a block but the second, which is the packet status
+-- the fields in the words of a block but the second, which is the packet status (manual 6.1, 6.3)
 abbrev pub fieldsOf : ℕ → ℕ → ℕ → Fields
 fieldsOf length vlan mng =
     record {

@@ -12,10 +12,11 @@ use Rattle.packet.specs.Store.{shown}
 use Rattle.tco.specs.declared.Part.{Part}
 use Rattle.tco.specs.Part.{shownLength, inFlash, macInForce, ipv4InForce}
 
--- the part that the numbers tell
+-- the part that the numbers tell (manual 5.9)
 abbrev pub partAt : Part → RefT (List ℕ) → RefT (List ℕ) → Slice
 partAt p settings flash = partOf (p .start) (p .length) (if eqb (p .source) inFlash then flash else settings)
 
+-- of the store and of both addresses (manual 4.4, 5.9)
 pub record EveryPart : Type 0 where
   pub packet : (store : RefT (List ℕ)) (n : ℕ) → partOf 0 (shownLength store n) store ≡ shown store n
   pub mac : (settings flash : RefT (List ℕ)) → partAt (macInForce (now settings) (now flash)) settings flash ≡ inForce Mac settings flash

@@ -11,7 +11,7 @@ use Rattle.translator.specs.declared.Transacted.{Transacted}
 use Rattle.translator.specs.Transact.{transacted}
 use Rattle.tco.specs.declared.Replied.{Replied}
 
--- a state, and the reply that came with it
+-- a state, and the reply that came with it (manual 8.10)
 abbrev pub replied : State → Reply → Replied
 replied state reply = record { state = state; reply = reply }
 

@@ -9,7 +9,7 @@ use Rattle.translator.specs.declared.command.Class.{Class}
 use Rattle.translator.specs.declared.command.Class.the-variants.{Fragment, Enable, Unknown}
 use Rattle.translator.specs.declared.command.Command.{Command}
 
--- a fragment by whether it is First and whether it is Last, and Receive Enable
+-- a fragment by whether it is First and whether it is Last, and Receive Enable (manual 1.4)
 abbrev pub commands : List Command
 commands =
     record { byte = 0x84; class = Fragment true false }
@@ -19,7 +19,7 @@ commands =
     ∷ record { byte = 0xCA; class = Enable }
     ∷ []
 
--- the class that a table gives a command; one that stands in no entry is unknown
+-- the class that a table gives a command; one that stands in no entry is unknown (manual 1.4)
 unfoldable pub classIn : List Command → ℕ → Class
 classIn [] command = Unknown
 classIn (entry ∷ rest) command = if eqb command (entry .byte) then entry .class else classIn rest command

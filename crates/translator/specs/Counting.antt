@@ -14,7 +14,7 @@ use Rattle.outcome.specs.declared.Outcome.the-variants as outcome
 use Rattle.translator.specs.declared.tally.Tally.{Tally}
 use Rattle.translator.specs.declared.judged.Judged.{Judged}
 
--- so many packets, fragments and bytes more in a row, if it is one
+-- so many packets, fragments and bytes more in a row, if it is one (manual 8.3)
 unfoldable pub addTo : ℕ → ℕ → ℕ → ℕ → List ℕ → List ℕ
 addTo row packets fragments bytes grid =
     if ltb row rowCount then
@@ -23,7 +23,7 @@ addTo row packets fragments bytes grid =
     (row * columns + 2) (bytesIn row grid + bytes)
     else grid
 
--- a row with the packets, fragments and bytes added there; the fragments and bytes that are open then; the commands taken and refused
+-- a row with the packets, fragments and bytes added there; the fragments and bytes that are open then; the commands taken and refused (manual 8.3)
 abbrev pub tally : (row packets fragments bytes openFragments openBytes taken refused : ℕ) → Tally
 tally row packets fragments bytes openFragments openBytes taken refused =
     record {
@@ -37,13 +37,14 @@ tally row packets fragments bytes openFragments openBytes taken refused =
       «added_refused» = refused;
     }
 
--- a fragment of `size` bytes behind `f` fragments and `b` bytes completes a packet of this fate, or stands alone in the row
+-- a fragment of `size` bytes behind `f` fragments and `b` bytes completes a packet of this fate, or stands alone in the row (manual 8.3)
 abbrev pub whole : (row f b size : ℕ) → Tally
 whole row f b size = tally row 1 (f + 1) (b + size) 0 0 0 0
 
 abbrev pub alone : (row f b size : ℕ) → Tally
 alone row f b size = tally row 0 1 size f b 0 0
 
+-- of a discarded fragment or packet, by the cause (manual 2.4, 8.3)
 abbrev pub causeTally : Cause → (f b size : ℕ) → Tally
 causeTally cause.Aborted f b size = alone aborted f b size
 causeTally cause.BadLength f b size = alone badlength f b size
@@ -63,10 +64,11 @@ tallyOf outcome.NoRoom f b size = tally noRow 0 0 0 f b 0 0
 tallyOf outcome.NotSound f b size = tally noRow 0 0 0 f b 0 0
 tallyOf outcome.Full f b size = tally noRow 0 0 0 f b 0 0
 
--- what is left open of the packet: nothing, where it ends in a row
+-- what is left open of the packet: nothing, where it ends in a row (manual 8.4)
 unfoldable pub leftOpen : ℕ → ℕ → ℕ
 leftOpen ends n = if ltb ends rowCount then 0 else n
 
+-- behind what is left open (manual 8.3, 8.4)
 abbrev pub judgedTally : Judged → Beside → Tally
 judgedTally j b = tallyOf (j .outcome) (leftOpen (j .ends) (b .«open_fragments»)) (leftOpen (j .ends) (b .«open_bytes»)) (j .bytes)
 
@@ -75,10 +77,11 @@ unfoldable pub gridAfter : ℕ → Beside → Tally → List ℕ → List ℕ
 gridAfter ends b t grid =
     addTo ends 1 (b .«open_fragments») (b .«open_bytes») (addTo (t .row) (t .«added_packets») (t .«added_fragments») (t .«added_bytes») grid)
 
+-- the numbers beside the grid, and one transaction more in the total (manual 8.3, 8.5)
 abbrev pub besideAfter : Tally → Beside → Beside
 besideAfter t b = besides (t .«open_fragments») (t .«open_bytes») (b .taken + t .«added_taken») (b .refused + t .«added_refused») (b .total + 1)
 
--- the account after a transaction
+-- the account after a transaction (manual 8.3, 8.4)
 unfoldable pub counted : Judged → Account → Account
 counted j a =
     accountOf (gridAfter (j .ends) (a .beside) (judgedTally j (a .beside)) (a .grid)) (besideAfter (judgedTally j (a .beside)) (a .beside))

@@ -22,15 +22,15 @@ use Rattle.translator.specs.declared.fragment.Sequence.the-variants as s
 use Rattle.translator.specs.declared.judged.Judged.{Judged}
 use Rattle.translator.specs.Command.{hasBothFlags}
 
--- an outcome, the row in which the packet that was open ends, and the data bytes that are counted
+-- an outcome, the row in which the packet that was open ends, and the data bytes that are counted (manual 8.3, 8.4)
 abbrev pub judged : Outcome → ℕ → ℕ → Judged
 judged o ends size = record { outcome = o; ends = ends; bytes = size }
 
--- a packet that is open ends in the row; where none is, none ends
+-- a packet that is open ends in the row; where none is, none ends (manual 8.4)
 unfoldable pub endsIn : ℕ → ℕ → ℕ
 endsIn row openFragments = if ltb 0 openFragments then row else noRow
 
--- what was judged, and the store afterwards
+-- what was judged, and the store afterwards (manual 2.4, 4.1)
 pub record Stored : Type 0 where
   pub result : Judged
   pub store : List ℕ
@@ -102,7 +102,7 @@ unknown openFragments command =
     if hasBothFlags command then judged outcome.Unknown (endsIn flushed openFragments) 0 else
     judged outcome.Unknown noRow 0
 
--- a fragment leaves the settings alone
+-- a fragment leaves the settings alone (manual 2.1)
 abbrev pub inStore : Stored → List ℕ → After Judged
 inStore s settings = after (s .result) (s .store) settings
 

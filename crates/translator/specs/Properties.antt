@@ -27,7 +27,7 @@ use Rattle.translator.specs.declared.command.Class.the-variants as class
 use Rattle.translator.specs.Command.{commands, classIn, hasBothFlags}
 use Rattle.translator.specs.Transact.{with, transacted}
 
--- what is said of every transaction: of the state and the buffers before it, of the transaction, and of what it leaves
+-- what is said of every transaction: of the state and the buffers before it, of the transaction, and of what it leaves (manual 8.10)
 abbrev pub Every : (State → List ℕ → List ℕ → Transaction → After Transacted → Type 0) → Type 0
 Every P =
     (state : State) (store settings : List ℕ) (t : Transaction) → Formed (state .account)
@@ -89,12 +89,12 @@ closesIn (class.Fragment first last) command o = fragmentCloses first o
 closesIn class.Enable command o = flushed
 closesIn class.Unknown command o = if hasBothFlags command then flushed else noRow
 
--- it is no row where no packet was open, and where the answer is not counted
+-- it is no row where no packet was open, and where the answer is not counted (manual 8.4)
 unfoldable pub closedRow : Account → ℕ → Outcome → ℕ
 closedRow before command o =
     if isOpen before then (if isCounted (numberOf o) then closesIn (classIn commands command) command o else noRow) else noRow
 
--- the cells of a row are as they were
+-- the cells of a row are as they were (manual 8.4)
 pub record SameRow (row : ℕ) (before after : List ℕ) : Type 0 where
   pub packets : packetsIn row after ≡ packetsIn row before
   pub fragments : fragmentsIn row after ≡ fragmentsIn row before
@@ -113,7 +113,7 @@ pub record Frames (before : State) (command : ℕ) (o : Outcome) (after : State)
 abbrev pub EveryFrame : Type 0
 EveryFrame = Every (λ state store settings t left. Frames state (t .command) (left .result .outcome) (left .result .state))
 
--- so many packets, fragments and bytes more in a row
+-- so many packets, fragments and bytes more in a row (manual 8.3)
 pub record Adds (row packets fragments bytes : ℕ) (before after : List ℕ) : Type 0 where
   pub packets-more : packetsIn row after ≡ packetsIn row before + packets
   pub fragments-more : fragmentsIn row after ≡ fragmentsIn row before + fragments
@@ -129,7 +129,7 @@ EveryClosing =
     Every (λ state store settings t left.
     Closing (closedRow (state .account) (t .command) (left .result .outcome)) (state .account) (left .result .state .account))
 
--- the fragments and bytes of a packet
+-- the fragments and bytes of a packet (manual 8.5)
 pub record Packet : Type 0 where
   pub fragments : ℕ
   pub bytes : ℕ
@@ -143,7 +143,7 @@ noPacket = packetOf 0 0
 abbrev pub openPacket : Account → Packet
 openPacket a = packetOf (a .beside .«open_fragments») (a .beside .«open_bytes»)
 
--- what is left of the packet that was open, once the transaction has ended it or not
+-- what is left of the packet that was open, once the transaction has ended it or not (manual 8.3, 8.4)
 unfoldable pub packetLeft : Account → ℕ → Outcome → Packet
 packetLeft before command o = if ltb (closedRow before command o) rowCount then noPacket else openPacket before
 

@@ -22,6 +22,7 @@ use Rattle.translator.specs.Command.{commands, classIn}
 use Rattle.translator.specs.Counting.{counted}
 use Rattle.translator.specs.Judge.{byClass}
 
+-- a state, and what was answered (manual 8.10)
 abbrev pub with : State → Outcome → Transacted
 with state o = record { state = state; outcome = o }
 
@@ -34,16 +35,16 @@ readinessOf s store settings =
     (if settings-layout.sound settings then readiness.Ready else readiness.Rejected outcome.NotSound)
     else readiness.Rejected outcome.NotSound
 
--- what a transaction comes to, by its command, on a state that can take it
+-- what a transaction comes to, by its command, on a state that can take it (manual 2.2)
 abbrev pub judgedOn : State → List ℕ → List ℕ → Transaction → After Judged
 judgedOn s store settings t =
     byClass (classIn commands (t .command)) (s .maximum) (s .account .beside .«open_fragments») (s .account .beside .«open_bytes») t store settings
 
--- it is counted, and answered its outcome
+-- it is counted, and answered its outcome (manual 8.1)
 abbrev pub applied : State → After Judged → After Transacted
 applied s j = after (with (withAccount s (counted (j .result) (s .account))) (j .result .outcome)) (j .store) (j .settings)
 
--- 14 where the account is full, before anything reads the command
+-- 14 where the account is full, before anything reads the command (manual 2.2, 8.6)
 unfoldable pub byReadiness : Readiness → State → List ℕ → List ℕ → Transaction → After Transacted
 byReadiness (readiness.Rejected o) s store settings t = after (with s o) store settings
 byReadiness readiness.Ready s store settings t =

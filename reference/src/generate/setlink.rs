@@ -164,7 +164,7 @@ pub fn generate(cases: &mut Cases) {
     named(cases, &FORCED);
     cases.group("Set Link: check 5, media");
     named(cases, &MEDIA);
-    cases.group("Set Link: check 6, the word in force");
+    cases.group("Set Link: the word in force");
     named(cases, &IN_FORCE);
     sweeps(cases);
     random(cases);
