@@ -94,7 +94,6 @@ fn answer_case(carried: &mut Carried, case: &str) -> Result<String, Stopped> {
         "enable" => enable(fields)?,
         "mac" => address(fields, settings::mac_in_force)?,
         "ipv4" => address(fields, settings::ipv4_in_force)?,
-        "append" => transactions::append(fields)?,
         "fill" => transactions::fill(fields)?,
         "shown" => transactions::shown(fields)?,
         "sound-account" => transactions::sound_account(fields)?,

@@ -18,7 +18,6 @@
 //! | `enable SETTINGS DATA` | `ANSWER/1 SETTINGS` |
 //! | `mac SETTINGS FLASH` | `SOURCE/1 PART` |
 //! | `ipv4 SETTINGS FLASH` | `SOURCE/1 PART` |
-//! | `append SIZE/2 SEED/1 AT/8 FRAGMENT` | `DIGEST/4` |
 //! | `fill SIZE/2 SEED/1 LENGTH/8` | `DIGEST/4` |
 //! | `shown SIZE/2 SEED/1 LENGTH/8` | `LENGTH/2 DIGEST/4` |
 //! | `sound-account ACCOUNT` | `SOUND/1` |
@@ -41,13 +40,13 @@
 //! the Flash block.
 //!
 //! A pattern of a size and a seed has the byte (seed + 7 * i) mod 256 at place
-//! i. `append`, `fill` and `shown` work on a store of that pattern; the first
-//! two answer with the digest of the whole store afterwards, `shown` with the
-//! length and the digest of the part. ACCOUNT is 256 bytes: 32 numbers of eight
-//! bytes, which are the nine rows of packets, fragments and bytes (sent,
-//! superseded, flushed, broken, over, short, linkdown, aborted, badlength), open
-//! fragments, open bytes, taken, refused and total. STATE is 264 bytes: those of
-//! the account, then the maximum as a number of eight bytes.
+//! i. `fill` and `shown` work on a store of that pattern; `fill` answers with
+//! the digest of the whole store afterwards, `shown` with the length and the
+//! digest of the part. ACCOUNT is 256 bytes: 32 numbers of eight bytes, which
+//! are the nine rows of packets, fragments and bytes (sent, superseded, flushed,
+//! broken, over, short, linkdown, aborted, badlength), open fragments, open
+//! bytes, taken, refused and total. STATE is 264 bytes: those of the account,
+//! then the maximum as a number of eight bytes.
 //!
 //! `start` gives the state, a store of a pattern of at most 2048 bytes and at
 //! most 64 bytes of settings that are carried from there on; before it they are

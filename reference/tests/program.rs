@@ -5,7 +5,7 @@ use std::process::{Command, Output, Stdio};
 use std::thread;
 
 /// The most bytes of cases and answers together.
-const MOST_BYTES: usize = 5_500_000;
+const MOST_BYTES: usize = 5_700_000;
 const LONGEST_LINE: usize = 8000;
 
 const SUBJECTS: [&str; 10] = [
@@ -129,17 +129,13 @@ fn pattern(size: usize, seed: usize) -> Vec<u8> {
 
 #[test]
 fn answers_about_a_store() {
-    let mut written = pattern(1536, 0xf0);
-    written[700..703].copy_from_slice(&[1, 2, 3]);
     let mut filled = pattern(60, 5);
     filled[17..].fill(0);
     let part = digest(&pattern(1535, 9));
     for (case, answer) in [
-        ("append 0600 f0 00000000000002bc 010203", digest(&written)),
-        ("append 0600 f0 00000000000005fe 010203", digest(&pattern(1536, 0xf0))),
-        ("append 0000 f0 0000000000000000 -", "00000001".to_string()),
         ("fill 003c 05 0000000000000011", digest(&filled)),
         ("fill 003b 05 0000000000000011", digest(&pattern(59, 5))),
+        ("fill 0000 05 0000000000000000", "00000001".to_string()),
         ("shown 0600 09 00000000000005ff", format!("05ff {part}")),
         ("shown 0600 09 0000000000000601", "0000 00000001".to_string()),
     ] {
@@ -199,6 +195,39 @@ fn answers_about_what_is_carried() {
     ];
     let given = answers(&cases);
     assert_eq!(given.lines().collect::<Vec<_>>(), expected);
+}
+
+#[test]
+fn answers_about_fragments_onto_an_open_packet() {
+    let before = |bytes| state(&[(27, 7), (28, bytes), (31, 7)], 240);
+    let open = |bytes| state(&[(27, 8), (28, bytes), (31, 8)], 240);
+    let fresh = "400000000000000000000000000000";
+    let store = pattern(1540, 0xf0);
+    let mut at_700 = store.clone();
+    at_700[700..703].copy_from_slice(&[1, 2, 3]);
+    let mut at_1533 = store.clone();
+    at_1533[1533..1536].copy_from_slice(&[1, 2, 3]);
+    let mut at_0 = store.clone();
+    at_0[..3].copy_from_slice(&[1, 2, 3]);
+    let superseded = state(&[(3, 1), (4, 7), (5, 1534), (27, 1), (28, 3), (31, 8)], 240);
+    let sent = state(&[(0, 1), (1, 8), (2, 1536), (31, 8)], 240);
+    let over = state(&[(12, 1), (13, 8), (14, 1537), (31, 8)], 240);
+    for (bytes, command, answer, after, store) in [
+        (700, "04", "00 0000", open(703), &at_700),
+        (1533, "04", "00 0000", open(1536), &at_1533),
+        (1533, "44", "01 0600", sent, &at_1533),
+        (1534, "04", "00 0000", open(1537), &store),
+        (1534, "44", "04 0000", over, &store),
+        (1534, "84", "00 0000", superseded, &at_0),
+    ] {
+        let start = format!("start {} 0604 f0 {fresh}", before(bytes));
+        let [state, settings] = [&after[..], fresh].map(digest_of_field);
+        assert_eq!(
+            answers(&format!("{start}\nsend {command} 01 010203\nshow\n")),
+            format!("01\n{answer} {state} {} {settings}\n{after} {fresh}\n", digest(store)),
+            "{command} onto {bytes}"
+        );
+    }
 }
 
 #[test]
@@ -265,9 +294,10 @@ fn lines_that_are_no_case() {
         "write-status 0040 0000 01 07 00 0000",
         "mac -",
         "Mac - -",
-        "append 0040 00 00000000 01",
-        "append 0040 00 0000000000000000",
         "fill 0040 0000000000000000",
+        "fill 0040 00 00000000",
+        "shown 0040 00",
+        "shown 0040 00 0000000000000000 01",
         "sound-account -",
         &short_account,
         &state_for_account,

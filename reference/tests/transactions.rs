@@ -216,6 +216,40 @@ fn the_store_at_any_place() {
     }
 }
 
+#[test]
+fn fragments_onto_an_open_packet() {
+    let highest = 240 * (HIGHEST_TOTAL - 1);
+    let long = [1 << 16, (1 << 16) + 700, 1 << 31, (1 << 32) - 3, 1 << 32, (1 << 32) + 5, highest];
+    for size in [1536, 1537, 2048] {
+        for at in (1..1700).chain(long) {
+            for (command, bytes) in [(0x04, 1), (0x04, 3), (0x44, 3), (0x04, 240), (0x84, 3)] {
+                let open_fragments = (at + 239) / 240;
+                let total = open_fragments;
+                let account =
+                    Account { open_fragments, open_bytes: at, total, ..Account::default() };
+                let mut kept = Kept::fresh(240);
+                kept.state.account = account;
+                kept.store = vec![0xdd; size];
+                let answer = kept.send(command, bytes, false);
+                let place = if command == 0x84 { 0 } else { at };
+                let end = place + bytes as u64;
+                let expected_answer = match command {
+                    0x44 if end > 1536 => 4,
+                    0x44 if end < 17 => 5,
+                    0x44 => 6,
+                    _ => 0,
+                };
+                let mut expected = vec![0xdd; size];
+                if end <= 1536 {
+                    expected[place as usize..end as usize].copy_from_slice(&data(bytes));
+                }
+                assert_eq!(answer, expected_answer, "{command:#04x} of {bytes} onto {at}");
+                assert_eq!(kept.store, expected, "{command:#04x} of {bytes} onto {at}");
+            }
+        }
+    }
+}
+
 /// Draws transactions, most of them fragments in a plausible order.
 struct Controller {
     random: Random,

@@ -25,8 +25,6 @@
 //         SOURCE/1 PART
 //     ipv4 SETTINGS FLASH
 //         SOURCE/1 PART
-//     append SIZE/2 SEED/1 AT/8 FRAGMENT
-//         DIGEST/4
 //     fill SIZE/2 SEED/1 LENGTH/8
 //         DIGEST/4
 //     shown SIZE/2 SEED/1 LENGTH/8
@@ -61,8 +59,8 @@
 // present and copper, present and fibre.
 //
 // A pattern of a size and a seed has the byte (seed + 7 * i) mod 256 at place i. The store of
-// `append`, `fill` and `shown` is one. The first two answer the digest of the store as they leave
-// it, and `shown` the length and the digest of the part that is shown.
+// `fill` and `shown` is one. `fill` answers the digest of the store as it leaves it, and `shown`
+// the length and the digest of the part that is shown.
 //
 // An account is 32 numbers of eight bytes: the 27 of the grid, open fragments, open bytes, taken,
 // refused and total. A state is an account and the maximum behind it. `start` has the state, a

@@ -9,9 +9,6 @@ use crate::pattern;
 
 // Answers as link::answer does.
 pub(crate) fn answer(bytes: &Buffer, ends: &[usize], text: &mut Buffer) -> usize {
-    if fields::are(bytes, ends, b"append 218*") {
-        return answer_append(bytes, ends, text);
-    }
     if fields::are(bytes, ends, b"fill 218") {
         return answer_fill(bytes, ends, text);
     }
@@ -22,19 +19,6 @@ pub(crate) fn answer(bytes: &Buffer, ends: &[usize], text: &mut Buffer) -> usize
 }
 
 // A store may be larger than a Buffer.
-fn answer_append(bytes: &Buffer, ends: &[usize], text: &mut Buffer) -> usize {
-    let size = fields::u16_at(bytes, ends, 1) as usize;
-    let mut space = io::large_buffer();
-    let store = &mut space[0..size];
-    pattern::fill(store, fields::u8_at(bytes, ends, 2));
-    packet::append(
-        store,
-        fields::u64_at(bytes, ends, 3),
-        fields::at(bytes, ends, 4),
-    );
-    put_u32(text, 0, digest::of_bytes(store))
-}
-
 fn answer_fill(bytes: &Buffer, ends: &[usize], text: &mut Buffer) -> usize {
     let size = fields::u16_at(bytes, ends, 1) as usize;
     let mut space = io::large_buffer();

@@ -10,7 +10,7 @@ use lib.ListN.{length, length-append}
 use borrow.Author.Tests.{ltb-false, lt-ltb, le-ltb, leb-true, leb-false, ne-eqb}
 use Rattle.prelude.specs.Choice.{if_then_else_, _and_}
 use Rattle.prelude.proofs.Tests.{if-false}
-use Rattle.packet.specs.Store.{maxPacket, minPacket, appended, filled}
+use Rattle.packet.specs.Store.{maxPacket, minPacket, filled}
 use Rattle.packet.specs.Store as store-of
 use Rattle.state.specs.declared.Account.{Account}
 use Rattle.state.specs.Account.{noRow}
@@ -20,7 +20,9 @@ use Rattle.outcome.specs.declared.Outcome.the-variants as outcome
 use Rattle.outcome.specs.declared.Reply.{Reply}
 use Rattle.outcome.specs.Outcome.{replyTo}
 use Rattle.translator.specs.Counting as counting
+use Rattle.translator.specs.Joining as join
 use Rattle.translator.specs.Judge as judge
+use Rattle.translator.proofs.Joined.{written, lastOf, byLast, joined-by-last}
 use Rattle.history.specs.Lines.{Fate, rowOf, sent, superseded, flushed, broken, over, short, linkdown, aborted, badlength, row, lineOf}
 use Rattle.history.specs.Packets.{concatenated, totalOf, sentLength}
 use Rattle.history.specs.Reading.{Setup, isLengthAllowed}
@@ -29,7 +31,7 @@ use Rattle.history.specs.Replies.{answered, lastReply, takenReply, reply
 use Rattle.history.specs.Calls.{packetsOf}
 use Rattle.history.proofs.Cutting.{heldOn, closing, closed, own, Alone, of-3, of-7, of-8, of-9, of-10, of-11, alone-not-sent, sent-append}
 use Rattle.history.proofs.Counts.{Counts, Adds, adds-none, adds-run, adds-alone, adds-closing, left-none, left-all, none-held, counted-counts}
-use Rattle.history.proofs.Holds.{Holds, holds-nothing, appended-holds, filled-length, sent-shown}
+use Rattle.history.proofs.Holds.{Holds, holds-nothing, written-holds, filled-length, sent-shown}
 
 -- two choices by one test
 pub if-both : {A B : Type 0} (P : A → B → Type 0) (t : Bool) (a b : A) (c d : B) → (t ≡ true → P a c) → (t ≡ false → P b d) → P (if t then a else b) (if t then c else d)
@@ -97,11 +99,11 @@ module _ (a : Account) (held : List (List ℕ)) (done : List Item) (total : ℕ)
     abbrev pieces : List (List ℕ)
     pieces = joining ++ piece ∷ []
 
-    abbrev written : List ℕ
-    written = appended store at piece
+    abbrev storeLeft : List ℕ
+    storeLeft = written store at piece
 
-    written-holds : Holds size written pieces
-    written-holds = rw at-is (appended-holds store piece joining holds)
+    store-holds : Holds size storeLeft pieces
+    store-holds = rw at-is (written-holds store piece joining holds)
 
     more-fragments : counting.leftOpen ending openFragments + 1 ≡ length pieces
     more-fragments = sym (length-append joining (piece ∷ []) ∙ omega (arith, left-fragments))
@@ -109,19 +111,19 @@ module _ (a : Account) (held : List (List ℕ)) (done : List Item) (total : ℕ)
     more-bytes : counting.leftOpen ending openBytes + length piece ≡ totalOf pieces
     more-bytes = sym (total-snoc joining piece ∙ omega (arith, left-bytes))
 
-    open-goes : Goes outcome.Joined ending (length piece) written pieces closes [] (answered 0)
+    open-goes : Goes outcome.Joined ending (length piece) storeLeft pieces closes [] (answered 0)
     unfolding packetsOf if_then_else_
     open-goes = record {
       counts-are =
           counted-counts outcome.Joined ending (length piece) a counts pieces closes [] closes-adds _ _ _ _ _ _ _ _ refl (adds-none 0 0 0) more-fragments more-bytes;
-      holds = written-holds;
+      holds = store-holds;
       sent-are = sent-then closes [] [] closes-unsent refl;
       reply-is = refl;
     }
 
     abbrev Ends : Outcome → ℕ → Type 0
     Ends o answer =
-        Goes o ending (length piece) (judge.filledIf o (totalOf pieces) written) [] closes (run pieces (lineOf answer) ∷ [])
+        Goes o ending (length piece) (join.filledIf o (totalOf pieces) storeLeft) [] closes (run pieces (lineOf answer) ∷ [])
         (record { answer = answer; sent = if eqb answer 1 then sentLength (totalOf pieces) else 0 })
 
     ended-counts : (o : Outcome) (fate : Fate)
@@ -130,11 +132,11 @@ module _ (a : Account) (held : List (List ℕ)) (done : List Item) (total : ℕ)
     ended-counts o fate e =
         counted-counts o ending (length piece) a counts [] closes (run pieces (row fate) ∷ []) closes-adds _ _ _ _ _ _ _ _ e (adds-run fate pieces _ _ more-fragments more-bytes) refl refl
 
-    nothing-held : Holds size written []
-    nothing-held = holds-nothing written (written-holds .size-is) (written-holds .room)
+    nothing-held : Holds size storeLeft []
+    nothing-held = holds-nothing storeLeft (store-holds .size-is) (store-holds .room)
 
     over-goes : Ends (outcome.Discarded cause.Over) 4
-    unfolding judge.filledIf packetsOf if_then_else_
+    unfolding join.filledIf packetsOf if_then_else_
     over-goes = record {
       counts-are = ended-counts (outcome.Discarded cause.Over) over refl;
       holds = nothing-held;
@@ -143,7 +145,7 @@ module _ (a : Account) (held : List (List ℕ)) (done : List Item) (total : ℕ)
     }
 
     short-goes : Ends (outcome.Discarded cause.Short) 5
-    unfolding judge.filledIf packetsOf if_then_else_
+    unfolding join.filledIf packetsOf if_then_else_
     short-goes = record {
       counts-are = ended-counts (outcome.Discarded cause.Short) short refl;
       holds = nothing-held;
@@ -152,7 +154,7 @@ module _ (a : Account) (held : List (List ℕ)) (done : List Item) (total : ℕ)
     }
 
     linkdown-goes : Ends (outcome.Discarded cause.LinkDown) 6
-    unfolding judge.filledIf packetsOf if_then_else_
+    unfolding join.filledIf packetsOf if_then_else_
     linkdown-goes = record {
       counts-are = ended-counts (outcome.Discarded cause.LinkDown) linkdown refl;
       holds = nothing-held;
@@ -161,36 +163,45 @@ module _ (a : Account) (held : List (List ℕ)) (done : List Item) (total : ℕ)
     }
 
     sent-goes : totalOf pieces ≤ maxPacket → Ends (outcome.Sent (store-of.sentLength (totalOf pieces))) 1
-    unfolding judge.filledIf packetsOf sentLength store-of.sentLength if_then_else_
+    unfolding join.filledIf packetsOf sentLength store-of.sentLength if_then_else_
     sent-goes within = record {
       counts-are = ended-counts (outcome.Sent (store-of.sentLength (totalOf pieces))) sent refl;
-      holds = holds-nothing (filled written (totalOf pieces)) (filled-length written (totalOf pieces) ∙ written-holds .size-is) (rw (filled-length written (totalOf pieces)) (written-holds .room));
-      sent-are = sent-then closes (run pieces (row sent) ∷ []) _ closes-unsent (ap (λ (p : List ℕ). p ∷ []) (sym (sent-shown written rest pieces written-holds within)));
+      holds = holds-nothing (filled storeLeft (totalOf pieces)) (filled-length storeLeft (totalOf pieces) ∙ store-holds .size-is) (rw (filled-length storeLeft (totalOf pieces)) (store-holds .room));
+      sent-are = sent-then closes (run pieces (row sent) ∷ []) _ closes-unsent (ap (λ (p : List ℕ). p ∷ []) (sym (sent-shown storeLeft rest pieces store-holds within)));
       reply-is = refl;
     }
 
-    last-goes : Ends (judge.completedOf (totalOf pieces) linkUp) (lastAnswer linkUp (totalOf pieces))
-    unfolding judge.completedOf lastAnswer
+    last-goes : Ends (lastOf (totalOf pieces) linkUp) (lastAnswer linkUp (totalOf pieces))
+    unfolding lastOf join.completedOf lastAnswer
     last-goes =
         if-both Ends (ltb maxPacket (totalOf pieces)) _ _ _ _ (λ _. over-goes)
         (λ within. if-both Ends (ltb (totalOf pieces) minPacket) _ _ _ _ (λ _. short-goes)
         (λ _. if-both Ends linkUp _ _ _ _ (λ _. sent-goes (ltb-false maxPacket (totalOf pieces) within)) (λ _. linkdown-goes)))
 
     joined-goes : (last : Bool)
-        → (let s : judge.Stored = judge.joined at ending piece last linkUp store in
-        Goes (s .result .outcome) (s .result .ends) (s .result .bytes) (s .store) (afterLast last pieces) closes (completes last linkUp pieces) (takenReply last linkUp pieces))
-    unfolding judge.joined lastReply if_then_else_
-    joined-goes true =
-        let sum : at + length piece ≡ totalOf pieces = sym (total-snoc joining piece ∙ omega (arith, at-is)) in
-        rw sum last-goes
-    joined-goes false = open-goes
+        → (let s : join.Stored Outcome = join.joined at piece last linkUp store in
+        Goes (s .result) ending (length piece) (s .store) (afterLast last pieces) closes (completes last linkUp pieces) (takenReply last linkUp pieces))
+    unfolding lastReply if_then_else_
+    joined-goes last =
+        subst (λ (s : join.Stored Outcome). Goes (s .result) ending (length piece) (s .store) (afterLast last pieces) closes (completes last linkUp pieces) (takenReply last linkUp pieces))
+        (sym (joined-by-last at piece last linkUp store)) (last-or-not last)
+      where
+        last-or-not : (l : Bool)
+            → (let s : join.Stored Outcome = byLast at piece l linkUp store in
+            Goes (s .result) ending (length piece) (s .store) (afterLast l pieces) closes (completes l linkUp pieces) (takenReply l linkUp pieces))
+        last-or-not true =
+            let sum : at + length piece ≡ totalOf pieces = sym (total-snoc joining piece ∙ omega (arith, at-is)) in
+            rw sum last-goes
+        last-or-not false = open-goes
 
   -- a fragment, as the rules take it and as the history reads it
   module _ (store : List ℕ) (holds : Holds size store held) (piece : List ℕ) (last linkUp : Bool) where
-    abbrev Stores : judge.Stored → Role → Type 0
+    abbrev Stores : judge.JudgedWithStore → Role → Type 0
     Stores s role = Follows (s .result .outcome) (s .result .ends) (s .result .bytes) (s .store) role
 
-    first-follows : Stores (judge.joined 0 (judge.endsIn (rowOf superseded) openFragments) piece last linkUp store) (begins last piece linkUp)
+    first-follows :
+        (let s : join.Stored Outcome = join.joined 0 piece last linkUp store in
+        Follows (s .result) (judge.endsIn (rowOf superseded) openFragments) (length piece) (s .store) (begins last piece linkUp))
     first-follows =
         by-last last
         (joined-goes [] piece 0 (judge.endsIn (rowOf superseded) openFragments) (closing (row superseded) held) refl
@@ -201,9 +212,10 @@ module _ (a : Account) (held : List (List ℕ)) (done : List Item) (total : ℕ)
       where
         by-last : (l : Bool)
             → ((l : Bool)
-            → (let s : judge.Stored = judge.joined 0 (judge.endsIn (rowOf superseded) openFragments) piece l linkUp store in
-            Goes (s .result .outcome) (s .result .ends) (s .result .bytes) (s .store) (afterLast l (piece ∷ [])) (closing (row superseded) held) (completes l linkUp (piece ∷ [])) (takenReply l linkUp (piece ∷ []))))
-            → Stores (judge.joined 0 (judge.endsIn (rowOf superseded) openFragments) piece l linkUp store) (begins l piece linkUp)
+            → (let s : join.Stored Outcome = join.joined 0 piece l linkUp store in
+            Goes (s .result) (judge.endsIn (rowOf superseded) openFragments) (length piece) (s .store) (afterLast l (piece ∷ [])) (closing (row superseded) held) (completes l linkUp (piece ∷ [])) (takenReply l linkUp (piece ∷ []))))
+            → (let s : join.Stored Outcome = join.joined 0 piece l linkUp store in
+            Follows (s .result) (judge.endsIn (rowOf superseded) openFragments) (length piece) (s .store) (begins l piece linkUp))
         by-last true goes = goes true
         by-last false goes = goes false
 
@@ -213,7 +225,7 @@ module _ (a : Account) (held : List (List ℕ)) (done : List Item) (total : ℕ)
       where
         Later : List (List ℕ) → Bool → Type 0
         Later h l =
-            let s : judge.Stored = judge.bySequence (judge.sequenceOf false openFragments openBytes) piece l linkUp store in
+            let s : judge.JudgedWithStore = judge.bySequence (judge.sequenceOf false openFragments openBytes) piece l linkUp store in
             let role : Role = goesOn l piece linkUp in
             Goes (s .result .outcome) (s .result .ends) (s .result .bytes) (s .store) (heldOn role h) (closed role h) (own role h) (replyOn role h)
 
@@ -228,8 +240,8 @@ module _ (a : Account) (held : List (List ℕ)) (done : List Item) (total : ℕ)
         }
 
         some-goes : (p : List ℕ) (ps : List (List ℕ)) → held ≡ p ∷ ps → (l : Bool)
-            → (let s : judge.Stored = judge.joined openBytes noRow piece l linkUp store in
-            Goes (s .result .outcome) (s .result .ends) (s .result .bytes) (s .store) (afterLast l ((p ∷ ps) ++ piece ∷ [])) [] (completes l linkUp ((p ∷ ps) ++ piece ∷ [])) (takenReply l linkUp ((p ∷ ps) ++ piece ∷ [])))
+            → (let s : join.Stored Outcome = join.joined openBytes piece l linkUp store in
+            Goes (s .result) noRow (length piece) (s .store) (afterLast l ((p ∷ ps) ++ piece ∷ [])) [] (completes l linkUp ((p ∷ ps) ++ piece ∷ [])) (takenReply l linkUp ((p ∷ ps) ++ piece ∷ [])))
         some-goes p ps e =
             joined-goes (p ∷ ps) piece openBytes noRow [] (counts .open-bytes ∙ ap totalOf e)
             (left-all openFragments ∙ (counts .open-fragments ∙ ap length e)) (left-all openBytes ∙ (counts .open-bytes ∙ ap totalOf e))
@@ -241,7 +253,7 @@ module _ (a : Account) (held : List (List ℕ)) (done : List Item) (total : ℕ)
         by-held (p ∷ ps) e true = rw (lt-ltb 0 openFragments (omega (arith, counts .open-fragments, ap length e))) (some-goes p ps e true)
         by-held (p ∷ ps) e false = rw (lt-ltb 0 openFragments (omega (arith, counts .open-fragments, ap length e))) (some-goes p ps e false)
 
-    bad-follows : Stores (judge.stored (judge.badLength openFragments) store) (ends broken 3)
+    bad-follows : Stores (join.stored (judge.badLength openFragments) store) (ends broken 3)
     unfolding judge.badLength packetsOf if_then_else_
     bad-follows = record {
       counts-are =

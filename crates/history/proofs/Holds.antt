@@ -14,8 +14,9 @@ use Rattle.prelude.specs.Choice.{if_then_else_}
 use Rattle.prelude.specs.Parts.{Slice, put}
 use Rattle.prelude.proofs.Lists.{length-put}
 use Rattle.prelude.proofs.Tests.{if-true, if-false, if-cases}
-use Rattle.packet.specs.Store.{maxPacket, minSent, appended, filled, sentLength, shown}
+use Rattle.packet.specs.Store.{maxPacket, minSent, filled, sentLength, shown}
 use Rattle.packet.proofs.Properties.{leaves-the-rest}
+use Rattle.translator.proofs.Joined.{written}
 use Rattle.history.specs.Packets.{concatenated, comparedFrom, withFill}
 use Rattle.history.specs.Calls.{shownBytes}
 
@@ -95,9 +96,9 @@ take-put store piece at h =
     let front : length (take at store ++ piece) ≡ at + length piece = length-append (take at store) piece ∙ omega (arith, length-take-le at store h) in
     rw (sym (append-assoc (take at store) piece (drop (at + length piece) store))) (take-at (take at store ++ piece) (drop (at + length piece) store) (at + length piece) front)
 
-pub appended-holds : {n : ℕ} (store piece : List ℕ) (held : List (List ℕ)) → Holds n store held → Holds n (appended store (length (concatenated held)) piece) (held ++ piece ∷ [])
-unfolding appended
-appended-holds {n} store piece held h = by-test (ltb maxPacket (length (concatenated held) + length piece)) refl
+pub written-holds : {n : ℕ} (store piece : List ℕ) (held : List (List ℕ)) → Holds n store held → Holds n (written store (length (concatenated held)) piece) (held ++ piece ∷ [])
+unfolding written
+written-holds {n} store piece held h = if-cases (λ (left : List ℕ). Holds n left (held ++ piece ∷ [])) _ _ _ past within
   where
     size : ℕ
     size = length (concatenated held)
@@ -105,22 +106,21 @@ appended-holds {n} store piece held h = by-test (ltb maxPacket (length (concaten
     snoc : comparedFrom 0 (held ++ piece ∷ []) ≡ (if ltb maxPacket (size + length piece) then comparedFrom 0 held else comparedFrom 0 held ++ piece)
     snoc = compared-snoc 0 held piece ∙ rw zero-add
 
-    by-test : (t : Bool) → ltb maxPacket (size + length piece) ≡ t → Holds n (appended store size piece) (held ++ piece ∷ [])
-    by-test true e =
-        rw (if-true {A = List ℕ} _ store (if ltb (length store) (size + length piece) then store else put store size piece) e)
-        (record { size-is = h .size-is; room = h .room; stored = rw (snoc ∙ if-true {A = List ℕ} _ _ _ e) (h .stored) })
-    by-test false e =
-        let within : size + length piece ≤ maxPacket = ltb-false maxPacket (size + length piece) e in
+    past : ltb maxPacket (size + length piece) ≡ true → Holds n store (held ++ piece ∷ [])
+    past e = record { size-is = h .size-is; room = h .room; stored = rw (snoc ∙ if-true {A = List ℕ} _ _ _ e) (h .stored) }
+
+    within : ltb maxPacket (size + length piece) ≡ false → Holds n (put store size piece) (held ++ piece ∷ [])
+    within e =
+        let end : size + length piece ≤ maxPacket = ltb-false maxPacket (size + length piece) e in
         let fits : size + length piece ≤ length store = omega (arith, h .room) in
         let all : comparedFrom 0 held ≡ concatenated held = compared-all 0 held (omega arith) in
         let front : take size store ≡ concatenated held = subst (λ (w : List ℕ). take (length w) store ≡ w) all (h .stored) in
         let now : comparedFrom 0 (held ++ piece ∷ []) ≡ concatenated held ++ piece = snoc ∙ (if-false {A = List ℕ} _ _ _ e ∙ ap (λ (w : List ℕ). w ++ piece) all) in
-        rw (if-false {A = List ℕ} _ store (if ltb (length store) (size + length piece) then store else put store size piece) e, if-false {A = List ℕ} _ store (put store size piece) (le-ltb (length store) (size + length piece) fits))
-        (record {
+        record {
           size-is = length-put store piece size fits ∙ h .size-is;
           room = rw (length-put store piece size fits) (h .room);
           stored = rw (now, length-append) (take-put store piece size (omega arith) ∙ ap (λ (w : List ℕ). w ++ piece) front);
-        })
+        }
 
 -- what is shown, where it is within the store and the largest packet
 shown-within : (store : List ℕ) (size : ℕ) → size ≤ length store → size ≤ maxPacket → shownBytes store size ≡ take size store
@@ -128,7 +128,7 @@ unfolding shown
 shown-within store size h k = ap (λ (s : Slice). s .bytes) (if-false _ _ _ (le-ltb (length store) size h) ∙ if-false _ _ _ (le-ltb maxPacket size k))
 
 pub filled-length : (store : List ℕ) (total : ℕ) → length (filled store total) ≡ length store
-filled-length store total = leaves-the-rest .filling store total .same-length
+filled-length store total = leaves-the-rest store total .same-length
 
 -- a packet is sent: what is shown of its sent length is the packet with its fill
 pub sent-shown : {n : ℕ} (store rest : List ℕ) (held : List (List ℕ)) → Holds n store held → length (concatenated held) ≤ maxPacket

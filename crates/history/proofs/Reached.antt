@@ -201,7 +201,7 @@ module _ (setup : Setup) (store settings : List ℕ) (start : 15 ≤ length sett
 
     abbrev FragmentServed : ℕ → Bool → Bool → Type 0
     FragmentServed c first last =
-        let s : judge.Stored = judge.fragment (kept .state .maximum) (kept .state .account .beside .«open_fragments») (kept .state .account .beside .«open_bytes») bytes first last linkUp lentStore in
+        let s : judge.JudgedWithStore = judge.fragment (kept .state .maximum) (kept .state .account .beside .«open_fragments») (kept .state .account .beside .«open_bytes») bytes first last linkUp lentStore in
         Served c (s .result .outcome) (s .result .ends) (s .result .bytes) (s .store) lentSettings
 
     fragment-served : (c : ℕ) (first last : Bool) → (c ≡ 0xCA → ⊥)
@@ -216,7 +216,7 @@ module _ (setup : Setup) (store settings : List ℕ) (start : 15 ≤ length sett
       where
         FollowsAs : ℕ → Role → Type 0
         FollowsAs k role =
-            let s : judge.Stored = judge.fragment k (kept .state .account .beside .«open_fragments») (kept .state .account .beside .«open_bytes») bytes first last linkUp lentStore in
+            let s : judge.JudgedWithStore = judge.fragment k (kept .state .account .beside .«open_fragments») (kept .state .account .beside .«open_bytes») bytes first last linkUp lentStore in
             Follows (kept .state .account) held (doneBack (rolesBack setup earlier)) (total earlier) (r .counts) (kept .sent) (r .sent-are) (length lentStore) storeRest
             (s .result .outcome) (s .result .ends) (s .result .bytes) (s .store) role
 

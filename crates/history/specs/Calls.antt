@@ -16,7 +16,7 @@ use Rattle.translator.specs.Transact.{transacted}
 use Rattle.history.specs.Lines.{isCounted}
 use Rattle.history.specs.Reading.{Entry, counted}
 
--- a transaction that is lent so many bytes of the store and of the settings, or a call that only reads what is kept: it is handed values, buffers to read, or a buffer for its output that is none of those kept. Other operations do write to what they are lent: those that make something fresh stand only at the start, and `packet::append`, `packet::fill` and `settings::receive_enable` are what transactions are built of, so that a caller who applies one to what is kept has altered it (manual 1.5, 1.6)
+-- a transaction that is lent so many bytes of the store and of the settings, or a call that only reads what is kept: it is handed values, buffers to read, or a buffer for its output that is none of those kept. Other operations do write to what they are lent: those that make something fresh stand only at the start, and `packet::fill` and `settings::receive_enable` are what transactions are built of, so that a caller who applies one to what is kept has altered it (manual 1.5, 1.6)
 pub data Call : Type 0 where
   transact : (storeLent settingsLent : ℕ) → Transaction → Call
   reads : Call

@@ -5,17 +5,12 @@ use Prim.Native.Nat.{ℕ}
 use mathlib.Core.List.{List}
 use Rattle.prelude.specs.Unique.{OneResult, OneSlice}
 use Rattle.prelude.proofs.Promise.{one-result}
-use Rattle.packet.proofs.append.Kinds as append-kinds
-use Rattle.packet.proofs.append.Reads as append-reads
 use Rattle.packet.proofs.fill.Kinds as fill-kinds
 use Rattle.packet.proofs.fill.Reads as fill-reads
 use Rattle.packet.proofs.sent_length.Kinds as sent-length-kinds
 use Rattle.packet.proofs.sent_length.Reads as sent-length-reads
 use Rattle.packet.proofs.shown.Kinds as shown-kinds
 use Rattle.packet.proofs.shown.Reads as shown-reads
-
-pub append-unique : OneResult 2 append-kinds.ps append-kinds.r append-reads.Learnt
-append-unique κs a r₁ r₂ w₁ w₂ p q = (refl, ap (λ (l : List ℕ). (l, (tt, (tt, tt)))) (one-result p q))
 
 pub fill-unique : OneResult 1 fill-kinds.ps fill-kinds.r fill-reads.Learnt
 fill-unique κs a r₁ r₂ w₁ w₂ p q = (refl, ap (λ (l : List ℕ). (l, (tt, tt))) (one-result p q))

@@ -1,5 +1,5 @@
--- The lent assembly store: a fragment appended, a packet filled up and shown (manual 4).
-use Prim.Native.Nat.{ℕ, _+_, _-_}
+-- The lent assembly store: how long a packet may be, and one filled up and shown (manual 1.5, 3.6, 4.3, 4.4).
+use Prim.Native.Nat.{ℕ, _-_}
 use mathlib.Core.List.{List}
 use lib.Dec.{ltb}
 use lib.ListN.{length, replicate}
@@ -18,13 +18,6 @@ minPacket = 17
 -- a shorter packet is filled up to this: the least frame of 802.3, 64 bytes, without the four check bytes (manual 4.3)
 abbrev pub minSent : ℕ
 minSent = 60
-
--- a fragment goes behind the bytes so far, and is not written where it would end past 1536 (manual 4.1, 4.2)
-unfoldable pub appended : List ℕ → ℕ → List ℕ → List ℕ
-appended store at fragment =
-    if ltb maxPacket (at + length fragment) then store else
-    if ltb (length store) (at + length fragment) then store else
-    put store at fragment
 
 -- zeros behind a packet that is sent (manual 4.3)
 unfoldable pub filled : List ℕ → ℕ → List ℕ

@@ -1,8 +1,7 @@
-// The assembly store that the caller lends: a fragment is appended, a packet is filled up and shown.
-// Whatever the store's length, bytes past MAX_PACKET never change.
+// The assembly store that the caller lends: how long a packet may be, and one filled up and shown.
 ghost use mathlib.Core.Path.{_≡_};
 ghost use Rattle.prelude.specs.Parts.{sliceOf};
-ghost use Rattle.packet.specs.Store.{appended, filled};
+ghost use Rattle.packet.specs.Store.{filled};
 ghost use Rattle.packet.specs.Store.{sentLength as Store·sentLength, shown as Store·shown};
 
 // The most bytes of a packet.
@@ -14,25 +13,6 @@ pub const MIN_PACKET: u64 = 17;
 // A shorter packet is filled up to this before it is sent: 802.3 asks for frames of at least 64
 // bytes, of which the network part adds the four check bytes.
 pub const MIN_SENT: u64 = 60;
-
-// Writes the fragment behind the first `at` bytes. Changes nothing where that would end past
-// MAX_PACKET or past the store.
-pub fn append(store: &mut [u8], at: u64, fragment: &[u8])
-    ensures { λ _. ⌜ now (store .exit) ≡ appended (now (store .entry)) at (now (fragment .entry)) ⌝ }
-{
-    if MAX_PACKET < at {
-        return;
-    }
-    let end = at + fragment.len() as u64;
-    if MAX_PACKET < end {
-        return;
-    }
-    if (store.len() as u64) < end {
-        return;
-    }
-    let start = at as usize;
-    bytes::copy(fragment, &mut store[start..]);
-}
 
 // Fills a packet of `total` bytes up with zeros to MIN_SENT. Changes nothing where it has as many
 // already or the store is shorter.

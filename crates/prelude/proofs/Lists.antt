@@ -2,15 +2,16 @@
 -- Assumes nothing.
 use Prim.Native.Nat.{ℕ, zero, suc, _+_, _-_, _≤_, _<_}
 use mathlib.Core.Bool.{Bool, true, false, _&&_}
-use mathlib.Core.List.{List, [], _∷_, _++_, append-nil}
+use mathlib.Core.List.{List, [], _∷_, _++_, append-assoc, append-nil}
+use mathlib.Core.Logic.{⊎-elim}
 use mathlib.Core.Path.{_≡_, refl, sym, ap, _∙_}
 use native.Mathlib.Nat.{le-of-suc-le-suc, not-suc-le-zero, add-zero, add-suc, suc-add}
 use native.Mathlib.Omega.{arith}
 use lib.Dec.{T}
-use lib.ListN.{length, getD, take, drop, length-take, length-drop, length-append, drop-of-length-le}
-use lib.Seq.{take-all, take-length, take-at, drop-at, drop-drop, drop-cons, drop-append-add}
+use lib.ListN.{length, getD, take, drop, length-take, length-drop, length-append, drop-of-length-le, List·getD-append}
+use lib.Seq.{getD-take, getD-drop, getD-append-add, take-all, take-add, take-length, take-at, take-append-seam, length-take-le, drop-at, drop-drop, drop-cons, drop-append-add}
 use Rattle.prelude.specs.Choice.{if_then_else_}
-use Rattle.prelude.specs.Parts.{part, put}
+use Rattle.prelude.specs.Parts.{part, put, ChangesOnly}
 
 -- the test holds of each entry of a table, which a proof computes
 abbrev pub every : {A : Type 0} → (A → Bool) → List A → Bool
@@ -85,3 +86,50 @@ pub put-over-if : (given : Bool) (before old piece after : List ℕ) (at : ℕ) 
 unfolding if_then_else_
 put-over-if true before old piece after at b e = put-over before old piece after at b e
 put-over-if false before old piece after at b e = refl
+
+-- nothing changes
+pub unchanged : (from to : ℕ) (bytes : List ℕ) → ChangesOnly from to bytes bytes
+unchanged from to bytes = record { same-length = refl; elsewhere = λ k _. refl }
+
+-- bytes before and behind a piece that is written stay
+put-before : (bytes piece : List ℕ) (at k : ℕ) → at ≤ length bytes → k < at → getD (put bytes at piece) k 0 ≡ getD bytes k 0
+unfolding put
+put-before bytes piece at k room l =
+    let inside : k < length (take at bytes) = rw (length-take-le at bytes room) l in
+    List·getD-append (take at bytes) (piece ++ drop (at + length piece) bytes) 0 k inside ∙ getD-take at bytes k 0 l
+
+put-after : (bytes piece : List ℕ) (at k : ℕ) → at ≤ length bytes → at + length piece ≤ k → getD (put bytes at piece) k 0 ≡ getD bytes k 0
+unfolding put
+put-after bytes piece at k room l =
+    let rest : ℕ = k - (at + length piece) in
+    let first : length (take at bytes) ≡ at = length-take-le at bytes room in
+    let split : k ≡ length (take at bytes) + (length piece + rest) = omega arith in
+    let again : at + length piece + rest ≡ k = omega arith in
+    rw split
+    (getD-append-add (take at bytes) (piece ++ drop (at + length piece) bytes) (length piece + rest) 0
+    ∙ (getD-append-add piece (drop (at + length piece) bytes) rest 0 ∙ (getD-drop (at + length piece) bytes rest 0 ∙ ap (λ (n : ℕ). getD bytes n 0) (again ∙ split))))
+
+pub put-changes : (bytes piece : List ℕ) (at : ℕ) → at + length piece ≤ length bytes → ChangesOnly at (at + length piece) bytes (put bytes at piece)
+put-changes bytes piece at room =
+    let start : at ≤ length bytes = omega arith in
+    record {
+      same-length = length-put bytes piece at room;
+      elsewhere = λ k where-k. ⊎-elim (λ l. put-before bytes piece at k start l) (λ l. put-after bytes piece at k start l) where-k;
+    }
+
+-- what is written stands at its place
+pub part-put : (bytes piece : List ℕ) (at : ℕ) → at ≤ length bytes → part at (length piece) (put bytes at piece) ≡ piece
+unfolding put
+part-put bytes piece at h =
+    let rest : List ℕ = drop (at + length piece) bytes in
+    ap (take (length piece)) (drop-at (take at bytes) (piece ++ rest) at (length-take-le at bytes h)) ∙ take-append-seam piece rest
+
+-- and a part that ends where it starts stays
+pub part-before-put : (bytes piece : List ℕ) (at n : ℕ) → at + n ≤ length bytes → part at n (put bytes (at + n) piece) ≡ part at n bytes
+unfolding put
+part-before-put bytes piece at n h =
+    let rest : List ℕ = piece ++ drop (at + n + length piece) bytes in
+    let whole : take (at + n) bytes ++ rest ≡ take at bytes ++ (part at n bytes ++ rest) =
+    ap (λ (front : List ℕ). front ++ rest) (take-add at n bytes) ∙ append-assoc (take at bytes) (part at n bytes) rest in
+    ap (part at n) whole
+    ∙ (ap (take n) (drop-at (take at bytes) (part at n bytes ++ rest) at (length-take-le at bytes (omega arith))) ∙ take-at (part at n bytes) rest n (length-part at n bytes h))

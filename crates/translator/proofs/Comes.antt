@@ -4,7 +4,7 @@ use Prim.Native.Nat.{ℕ, _+_, _≤_}
 use mathlib.Core.Bool.{Bool, true, false, true≢false}
 use mathlib.Core.List.{List}
 use mathlib.Core.Logic.{_⊎_, inl, inr}
-use mathlib.Core.Path.{_≡_, refl, sym, ap, _∙_}
+use mathlib.Core.Path.{_≡_, refl, sym, ap, subst, _∙_}
 use native.Mathlib.Omega.{arith}
 use lib.Dec.{eqb, leb, ltb}
 use lib.ListN.{length}
@@ -12,7 +12,7 @@ use borrow.Author.Tests.{ltb-true, ltb-false}
 use Rattle.prelude.specs.After.{After, after}
 use Rattle.prelude.specs.Choice.{if_then_else_}
 use Rattle.prelude.proofs.Tests.{if-cases, if-true, if-false}
-use Rattle.packet.specs.Store.{appended, filled}
+use Rattle.packet.specs.Store.{maxPacket, filled}
 use Rattle.settings.specs.declared.enable.Enabled.{Enabled}
 use Rattle.settings.specs.declared.enable.Enabled.the-variants as enabled
 use Rattle.settings.specs.declared.enable.Refusal.{Refusal}
@@ -35,8 +35,10 @@ use Rattle.translator.specs.declared.fragment.Sequence.{Sequence}
 use Rattle.translator.specs.declared.judged.Judged.{Judged}
 use Rattle.translator.specs.Command.{hasBothFlags}
 use Rattle.translator.specs.Counting.{leftOpen}
-use Rattle.translator.specs.Judge.{judged, endsIn, Stored, stored, badLength, sequenceOf, completedOf, filledIf, joined, bySequence, fragment, enabledAs, enable, unknown, inStore, byClass}
+use Rattle.translator.specs.Joining.{Stored, stored, completedOf, filledIf, joined}
+use Rattle.translator.specs.Judge.{judged, endsIn, badLength, sequenceOf, bySequence, fragment, enabledAs, enable, unknown, inStore, byClass}
 use Rattle.translator.specs.Properties.{fragmentCloses, closesIn}
+use Rattle.translator.proofs.Joined.{written, lastOf, joined-by-last}
 use Rattle.prelude.proofs.Tests.{same-or-not}
 
 -- the data bytes that each outcome counts
@@ -60,16 +62,16 @@ countedBytes outcome.Full size = 0
 
 -- the store that each outcome leaves, where the fragment goes to `at`
 abbrev causeStore : Cause → List ℕ → List ℕ → List ℕ
-causeStore cause.Aborted store written = store
-causeStore cause.BadLength store written = store
-causeStore cause.Over store written = written
-causeStore cause.Short store written = written
-causeStore cause.LinkDown store written = written
+causeStore cause.Aborted store after = store
+causeStore cause.BadLength store after = store
+causeStore cause.Over store after = after
+causeStore cause.Short store after = after
+causeStore cause.LinkDown store after = after
 
 abbrev pub storeAfter : Outcome → ℕ → List ℕ → List ℕ → List ℕ
-storeAfter outcome.Joined at bytes store = appended store at bytes
-storeAfter (outcome.Sent n) at bytes store = filled (appended store at bytes) (at + length bytes)
-storeAfter (outcome.Discarded c) at bytes store = causeStore c store (appended store at bytes)
+storeAfter outcome.Joined at bytes store = written store at bytes
+storeAfter (outcome.Sent n) at bytes store = filled (written store at bytes) (at + length bytes)
+storeAfter (outcome.Discarded c) at bytes store = causeStore c store (written store at bytes)
 storeAfter outcome.Unknown at bytes store = store
 storeAfter (outcome.Refused r) at bytes store = store
 storeAfter outcome.Taken at bytes store = store
@@ -90,6 +92,7 @@ pub record Comes (maximum f b : ℕ) (closes : Outcome → ℕ) (bytes store set
   pub bytes-are : d .result .bytes ≡ countedBytes (d .result .outcome) (length bytes)
   pub few : d .result .bytes ≤ maximum
   pub some : numberOf (d .result .outcome) ≡ 0 → 1 ≤ d .result .bytes
+  pub store-room : maxPacket ≤ length store
   pub store-is : d .store ≡ storeAfter (d .result .outcome) (leftOpen (d .result .ends) b) bytes store
   pub settings-are : Enabling (numberOf (d .result .outcome)) settings (d .settings)
 
@@ -134,7 +137,7 @@ enabling settings bytes s =
     by-number (inl e) = every-enable settings bytes .taken e
     by-number (inr n) = rw (every-enable settings bytes .refused n) s
 
-module _ (maximum f b : ℕ) (none : f ≤ 0 → b ≡ 0) (bytes store settings : List ℕ) (s : settings-layout.sound settings ≡ true) where
+module _ (maximum f b : ℕ) (none : f ≤ 0 → b ≡ 0) (bytes store settings : List ℕ) (room : maxPacket ≤ length store) (s : settings-layout.sound settings ≡ true) where
   same-settings : (answer : ℕ) → Enabling answer settings settings
   same-settings answer = record { the-rest = (refl, refl); stay-sound = s; change = λ _. refl }
 
@@ -155,7 +158,7 @@ module _ (maximum f b : ℕ) (none : f ≤ 0 → b ≡ 0) (bytes store settings 
 
   module _ (first : Bool) where
     -- what is shown of a fragment
-    abbrev Goes : Stored → Type 0
+    abbrev Goes : Stored Judged → Type 0
     Goes d = Comes maximum f b (fragmentCloses first) bytes store settings (inStore d settings)
 
     bad-length-comes : Goes (stored (badLength f) store)
@@ -166,6 +169,7 @@ module _ (maximum f b : ℕ) (none : f ≤ 0 → b ≡ 0) (bytes store settings 
       bytes-are = refl;
       few = omega arith;
       some = λ e. absurd (omega arith);
+      store-room = room;
       store-is = refl;
       settings-are = same-settings 3;
     }
@@ -181,22 +185,28 @@ module _ (maximum f b : ℕ) (none : f ≤ 0 → b ≡ 0) (bytes store settings 
         bytes-are = sym size;
         few = most;
         some = λ _. least;
+        store-room = room;
         store-is = e ∙ ap (λ (place : ℕ). storeAfter o place bytes store) at-is;
         settings-are = same-settings (numberOf o);
       }
 
-      joined-comes : (last linkUp : Bool) → Goes (joined at ends bytes last linkUp store)
-      unfolding joined completedOf filledIf
+      -- what is shown of a fragment that joins its packet
+      abbrev Joins : Stored Outcome → Type 0
+      Joins d = Goes (stored (judged (d .result) ends (length bytes)) (d .store))
+
+      joined-comes : (last linkUp : Bool) → Joins (joined at bytes last linkUp store)
+      unfolding lastOf completedOf filledIf
       joined-comes last linkUp =
-          if-cases Goes last _ _
+          subst Joins (sym (joined-by-last at bytes last linkUp store))
+          (if-cases Joins last _ _
           (λ _. if-cases P _ _ _ (λ _. takes (outcome.Discarded cause.Over) _ (counts _ refl) refl refl refl)
           (λ _. if-cases P _ _ _ (λ _. takes (outcome.Discarded cause.Short) _ (counts _ refl) refl refl refl)
           (λ _. if-cases P linkUp _ _ (λ _. takes (outcome.Sent _) _ (counts _ refl) refl refl refl)
           (λ _. takes (outcome.Discarded cause.LinkDown) _ (counts _ refl) refl refl refl))))
-          (λ _. takes outcome.Joined _ (counts _ refl) refl refl refl)
+          (λ _. takes outcome.Joined _ (counts _ refl) refl refl refl))
         where
           P : Outcome → Type 0
-          P o = Goes (stored (judged o ends (length bytes)) (filledIf o (at + length bytes) (appended store at bytes)))
+          P o = Goes (stored (judged o ends (length bytes)) (filledIf o (at + length bytes) (written store at bytes)))
 
     fragment-comes : (last linkUp : Bool) → Goes (fragment maximum f b bytes first last linkUp store)
     unfolding fragment sequenceOf bySequence
@@ -227,6 +237,7 @@ module _ (maximum f b : ℕ) (none : f ≤ 0 → b ≡ 0) (bytes store settings 
     bytes-are = sym size;
     few = omega arith;
     some = λ z. absurd (omega arith);
+    store-room = room;
     store-is = sym e;
     settings-are = enables;
   }

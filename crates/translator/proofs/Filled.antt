@@ -10,7 +10,7 @@ use types.Run.{OneOf}
 use Rattle.outcome.proofs.Outcome.{the-type}
 use Rattle.outcome.specs.declared.Outcome.{Outcome}
 use Rattle.outcome.specs.declared.Outcome.the-variants as outcome
-use Rattle.translator.specs.Judge.{filledIf}
+use Rattle.translator.specs.Joining.{filledIf}
 
 -- the tags of the outcomes other than Sent, whose tag is 1
 abbrev unsentTags : List ℕ

@@ -6,6 +6,7 @@ pub mod Filled
 pub mod Fits
 pub mod Grids
 pub mod HeldRows
+pub mod Joined
 pub mod Keeping
 pub mod Properties
 pub mod Readied

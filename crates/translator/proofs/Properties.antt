@@ -46,12 +46,12 @@ every-transaction =
       settings-change = w .settings-are .change;
     })
 
-rejected-number : (n : ℕ) → isCounted n ≡ false → 12 ≤ n
+pub rejected-number : (n : ℕ) → isCounted n ≡ false → 12 ≤ n
 unfolding isCounted
 rejected-number n = if-cases (λ (t : Bool). not t ≡ false → 12 ≤ n) _ _ _ (λ e _. leb-true _ _ e) (λ _ h. absurd (true≢false h))
 
 -- a Last is no other answer
-completes-tells : (n : ℕ) → completes n ≡ true → (1 ≤ n) × (n ≤ 6) × (n ≡ 2 → ⊥) × (n ≡ 3 → ⊥)
+pub completes-tells : (n : ℕ) → completes n ≡ true → (1 ≤ n) × (n ≤ 6) × (n ≡ 2 → ⊥) × (n ≡ 3 → ⊥)
 completes-tells n =
     if-cases (λ (t : Bool). t ≡ true → (1 ≤ n) × (n ≤ 6) × (n ≡ 2 → ⊥) × (n ≡ 3 → ⊥)) _ _ _ (λ e _. let one : n ≡ 1 = eqb-true _ _ e in omega arith)
     (λ _ h. let from : 4 ≤ n = leb-true _ _ (if-first _ _ h) in let to : n ≤ 6 = leb-true _ _ (if-second _ _ h) in omega arith)

@@ -4,9 +4,11 @@ use Prim.Native.Nat.{ℕ, _≤_}
 use mathlib.Core.List.{List}
 use mathlib.Core.Path.{_≡_}
 use native.Mathlib.Nat.{le-trans}
+use lib.ListN.{length}
 use borrow.Author.Tests.{eq-eqb, ne-eqb}
 use Rattle.prelude.specs.After.{after}
 use Rattle.prelude.proofs.Tests.{if-true, if-false}
+use Rattle.packet.specs.Store.{maxPacket}
 use Rattle.record.specs.Transaction.{Transaction}
 use Rattle.state.specs.declared.State.{State}
 use Rattle.state.specs.Account.{Formed, limit}
@@ -23,6 +25,9 @@ use Rattle.translator.proofs.Ways.{ready-usable, usable-comes}
 module _ (s : State) (store settings : List ℕ) (ready : readinessOf s store settings ≡ readiness.Ready) where
   pub ready-maximum : s .maximum ≤ maxMaximum
   ready-maximum = sound-tells s (ready-usable s store settings ready .state-is-sound) .most
+
+  pub ready-room : maxPacket ≤ length store
+  ready-room = ready-usable s store settings ready .store-room
 
   pub ready-fits : Formed (s .account) → AccountFits (s .account)
   ready-fits formed = sound-fits (s .account) formed (sound-tells s (ready-usable s store settings ready .state-is-sound) .account-is-sound)

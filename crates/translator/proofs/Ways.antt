@@ -103,7 +103,7 @@ rejected-not-counted s store settings _ (full u h) = refl
 pub usable-comes : (s : State) (store settings : List ℕ) (t : Transaction) → Usable s store settings → ComesOn s store settings t (judgedOn s store settings t)
 usable-comes s store settings t u =
     let a : AccountSound (s .account) = account-sound-tells (s .account) (sound-tells s (u .state-is-sound) .account-is-sound) in
-    by-class-comes (s .maximum) (s .account .beside .«open_fragments») (s .account .beside .«open_bytes») (λ none. omega arith) (t .bytes) store settings (u .settings-are-sound)
+    by-class-comes (s .maximum) (s .account .beside .«open_fragments») (s .account .beside .«open_bytes») (λ none. omega arith) (t .bytes) store settings (u .store-room) (u .settings-are-sound)
     (classIn commands (t .command)) (t .command) (t .linkUp)
 
 -- what holds of a transaction that is rejected and of one that is counted holds of every one

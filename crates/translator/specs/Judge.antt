@@ -1,12 +1,11 @@
--- What a transaction comes to: its outcome, the row in which it ends the packet that was open, and what it writes (manual 3, 4, 5.6).
-use Prim.Native.Nat.{ℕ, _+_}
-use mathlib.Core.Bool.{Bool, true, false}
+-- What a transaction comes to: its outcome, the row in which it ends the packet that was open, and what it writes (manual 3, 4.1, 5.6).
+use Prim.Native.Nat.{ℕ}
+use mathlib.Core.Bool.{Bool}
 use mathlib.Core.List.{List}
 use lib.Dec.{ltb}
 use lib.ListN.{length}
 use Rattle.prelude.specs.After.{After, after}
 use Rattle.prelude.specs.Choice.{if_then_else_}
-use Rattle.packet.specs.Store.{maxPacket, minPacket, appended, filled, sentLength}
 use Rattle.record.specs.Transaction.{Transaction}
 use Rattle.settings.specs.declared.enable.Enabled.{Enabled}
 use Rattle.settings.specs.declared.enable.Enabled.the-variants as enabled
@@ -21,22 +20,19 @@ use Rattle.translator.specs.declared.fragment.Sequence.{Sequence}
 use Rattle.translator.specs.declared.fragment.Sequence.the-variants as sequence
 use Rattle.translator.specs.declared.judged.Judged.{Judged}
 use Rattle.translator.specs.Command.{hasBothFlags}
+use Rattle.translator.specs.Joining.{Stored, stored, joined}
 
 -- an outcome, the row in which the packet that was open ends, and the data bytes that are counted (manual 8.3, 8.4)
 abbrev pub judged : Outcome → ℕ → ℕ → Judged
 judged o ends size = record { outcome = o; ends = ends; bytes = size }
 
+-- what was judged, and the store afterwards (manual 2.4, 4.1)
+abbrev pub JudgedWithStore : Type 0
+JudgedWithStore = Stored Judged
+
 -- a packet that is open ends in the row; where none is, none ends (manual 8.4)
 unfoldable pub endsIn : ℕ → ℕ → ℕ
 endsIn row openFragments = if ltb 0 openFragments then row else noRow
-
--- what was judged, and the store afterwards (manual 2.4, 4.1)
-pub record Stored : Type 0 where
-  pub result : Judged
-  pub store : List ℕ
-
-abbrev pub stored : Judged → List ℕ → Stored
-stored result store = record { result = result; store = store }
 
 -- a fragment of a bad length is answered 3 and breaks the open packet (manual 3.5)
 unfoldable pub badLength : ℕ → Judged
@@ -49,39 +45,14 @@ sequenceOf first openFragments openBytes =
     if ltb 0 openFragments then sequence.Joins openBytes noRow else
     sequence.Aborted
 
--- a packet that its Last completes: 4 before 5 before 6, else it is sent (manual 3.6)
-unfoldable pub completedOf : ℕ → Bool → Outcome
-completedOf total linkUp =
-    if ltb maxPacket total then outcome.Discarded cause.Over else
-    if ltb total minPacket then outcome.Discarded cause.Short else
-    if linkUp then outcome.Sent (sentLength total) else
-    outcome.Discarded cause.LinkDown
-
--- a packet that is sent is filled up, a discarded one is not (manual 4.3)
-unfoldable pub filledIf : Outcome → ℕ → List ℕ → List ℕ
-filledIf outcome.Joined total store = store
-filledIf (outcome.Sent n) total store = filled store total
-filledIf (outcome.Discarded c) total store = store
-filledIf outcome.Unknown total store = store
-filledIf (outcome.Refused r) total store = store
-filledIf outcome.Taken total store = store
-filledIf outcome.NoRoom total store = store
-filledIf outcome.NotSound total store = store
-filledIf outcome.Full total store = store
-
--- a Last completes its packet; another fragment leaves it open (manual 3.1, 3.6)
-unfoldable pub joined : ℕ → ℕ → List ℕ → Bool → Bool → List ℕ → Stored
-joined at ends bytes last linkUp store =
-    if last then
-    stored (judged (completedOf (at + length bytes) linkUp) ends (length bytes)) (filledIf (completedOf (at + length bytes) linkUp) (at + length bytes) (appended store at bytes))
-    else stored (judged outcome.Joined ends (length bytes)) (appended store at bytes)
-
-unfoldable pub bySequence : Sequence → List ℕ → Bool → Bool → List ℕ → Stored
-bySequence (sequence.Joins at ends) bytes last linkUp store = joined at ends bytes last linkUp store
+-- one that joins is judged by its packet; an aborted one leaves the store as it was (manual 2.1, 3.3)
+unfoldable pub bySequence : Sequence → List ℕ → Bool → Bool → List ℕ → JudgedWithStore
+bySequence (sequence.Joins at ends) bytes last linkUp store =
+    stored (judged (joined at bytes last linkUp store .result) ends (length bytes)) (joined at bytes last linkUp store .store)
 bySequence sequence.Aborted bytes last linkUp store = stored (judged (outcome.Discarded cause.Aborted) noRow (length bytes)) store
 
 -- the length is judged before the sequence (manual 2.2, 3.5)
-unfoldable pub fragment : (maximum openFragments openBytes : ℕ) → List ℕ → (first last linkUp : Bool) → List ℕ → Stored
+unfoldable pub fragment : (maximum openFragments openBytes : ℕ) → List ℕ → (first last linkUp : Bool) → List ℕ → JudgedWithStore
 fragment maximum openFragments openBytes bytes first last linkUp store =
     if ltb (length bytes) 1 then stored (badLength openFragments) store else
     if ltb maximum (length bytes) then stored (badLength openFragments) store else
@@ -103,7 +74,7 @@ unknown openFragments command =
     judged outcome.Unknown noRow 0
 
 -- a fragment leaves the settings alone (manual 2.1)
-abbrev pub inStore : Stored → List ℕ → After Judged
+abbrev pub inStore : JudgedWithStore → List ℕ → After Judged
 inStore s settings = after (s .result) (s .store) settings
 
 -- by the class of its command; a command leaves the store alone (manual 2.2)

@@ -1,6 +1,7 @@
 pub mod Command
 pub mod Counting
 pub mod Held
+pub mod Joining
 pub mod Judge
 pub mod Properties
 pub mod Replay

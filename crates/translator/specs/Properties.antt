@@ -8,6 +8,7 @@ use lib.Dec.{eqb, leb, ltb}
 use lib.ListN.{length, getD}
 use Rattle.prelude.specs.After.{After, after}
 use Rattle.prelude.specs.Choice.{if_then_else_, _and_, _or_}
+use Rattle.prelude.specs.Parts.{part}
 use Rattle.packet.specs.Store.{maxPacket, minSent}
 use Rattle.record.specs.Transaction.{Transaction}
 use Rattle.settings.specs.Layout as settings-layout
@@ -174,6 +175,20 @@ pub record Keeps (at size : ℕ) (o : Outcome) (before after : List ℕ) : Type 
   pub before-its-place : (k : ℕ) → k < at → getD after k 0 ≡ getD before k 0
   pub behind-its-place : (k : ℕ) → at + size ≤ k → (minSent ≤ k) ⊎ (numberOf o ≡ 1 → ⊥) → getD after k 0 ≡ getD before k 0
   pub past-1536 : (k : ℕ) → maxPacket ≤ k → getD after k 0 ≡ getD before k 0
+
+-- a fragment that joins its packet is answered 0 or, as a Last, 1, 4, 5 or 6 (manual 2.1, 3.6)
+abbrev pub joins : ℕ → Bool
+joins answer = eqb answer 0 or completes answer
+
+-- within 1536 bytes it stands at its place, also where the packet is then discarded (manual 4.1, 4.2)
+abbrev pub Stands : ℕ → List ℕ → Outcome → List ℕ → Type 0
+Stands at fragment o store =
+    joins (numberOf o) ≡ true → at + length fragment ≤ maxPacket → part at (length fragment) store ≡ fragment
+
+abbrev pub EveryWriting : Type 0
+EveryWriting =
+    Every (λ state store settings t left.
+    Stands (packetLeft (state .account) (t .command) (left .result .outcome) .bytes) (t .bytes) (left .result .outcome) (left .store))
 
 -- a fragment's place is behind what is left; bytes past 1536 of the store and past 15 of the settings stay (manual 1.5)
 abbrev pub EveryKeeping : Type 0

@@ -6,6 +6,8 @@ use outcome::Outcome;
 use settings::Enabled;
 ghost use mathlib.Core.Path.{_≡_};
 ghost use Prim.Native.Nat.{_≤_};
+ghost use lib.ListN.{length};
+ghost use Rattle.packet.specs.Store.{maxPacket};
 ghost use Rattle.prelude.specs.After.{after};
 ghost use Rattle.record.specs.Transaction.{transaction};
 ghost use Rattle.settings.specs.Enable.{answered};
@@ -76,6 +78,7 @@ pub(crate) fn judge(
 ) -> Judged
     requires { ⌜ maximum ≤ maxMaximum ⌝ }
     requires { ⌜ «open_bytes» ≤ most ⌝ }
+    requires { ⌜ maxPacket ≤ length (now store) ⌝ }
     ensures { λ r. ⌜ after r (now (store .exit)) (now (settings .exit)) ≡ byClass (classIn commands command) maximum «open_fragments» «open_bytes» (transaction command (now (bytes .entry)) «link_up») (now (store .entry)) (now (settings .entry)) ⌝ }
 {
     match class_of(command) {

@@ -1,12 +1,16 @@
-// A fragment: its length, its place in the sequence, and the packet that a Last completes.
+// A fragment: its length and its place in the sequence.
+use crate::joining::join;
 use crate::judged::Judged;
 use crate::judged::ends_in;
 use outcome::Cause;
 use outcome::Outcome;
 ghost use mathlib.Core.Path.{_≡_};
 ghost use Prim.Native.Nat.{_≤_};
+ghost use lib.ListN.{length};
+ghost use Rattle.packet.specs.Store.{maxPacket};
 ghost use Rattle.state.specs.State.{maxMaximum};
-ghost use Rattle.translator.specs.Judge.{badLength, completedOf, fragment as Judge·fragment, sequenceOf, stored};
+ghost use Rattle.translator.specs.Joining.{stored};
+ghost use Rattle.translator.specs.Judge.{badLength, fragment as Judge·fragment, sequenceOf};
 ghost use Rattle.translator.specs.Rows.{most};
 
 // What a fragment of an allowed length is to the open packet.
@@ -29,6 +33,7 @@ pub(crate) fn fragment(
 ) -> Judged
     requires { ⌜ maximum ≤ maxMaximum ⌝ }
     requires { ⌜ «open_bytes» ≤ most ⌝ }
+    requires { ⌜ maxPacket ≤ length (now store) ⌝ }
     ensures { λ r. ⌜ stored r (now (store .exit)) ≡ Judge·fragment maximum «open_fragments» «open_bytes» (now (bytes .entry)) first last «link_up» (now (store .entry)) ⌝ }
 {
     let size = bytes.len() as u64;
@@ -46,26 +51,8 @@ pub(crate) fn fragment(
             bytes: size,
         };
     };
-    packet::append(store, at, bytes);
-    if !last {
-        return Judged {
-            outcome: Outcome::Joined,
-            ends,
-            bytes: size,
-        };
-    }
-    let total = at + size;
-    let outcome = completed_of(total, link_up);
-    let Outcome::Sent(_) = outcome else {
-        return Judged {
-            outcome,
-            ends,
-            bytes: size,
-        };
-    };
-    packet::fill(store, total);
     Judged {
-        outcome,
+        outcome: join(store, at, bytes, last, link_up),
         ends,
         bytes: size,
     }
@@ -98,20 +85,4 @@ fn sequence_of(first: bool, open_fragments: u64, open_bytes: u64) -> Sequence
         };
     }
     Sequence::Aborted
-}
-
-// What becomes of a packet of so many bytes that its Last completes.
-fn completed_of(total: u64, link_up: bool) -> Outcome
-    ensures { λ r. ⌜ r ≡ completedOf total «link_up» ⌝ }
-{
-    if packet::MAX_PACKET < total {
-        return Outcome::Discarded(Cause::Over);
-    }
-    if total < packet::MIN_PACKET {
-        return Outcome::Discarded(Cause::Short);
-    }
-    if !link_up {
-        return Outcome::Discarded(Cause::LinkDown);
-    }
-    Outcome::Sent(packet::sent_length(total) as u32)
 }

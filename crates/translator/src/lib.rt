@@ -3,6 +3,7 @@
 mod command;
 mod counting;
 mod fragment;
+mod joining;
 mod judged;
 mod readiness;
 mod records;

@@ -162,8 +162,11 @@ further =
     ∷ stored (up 0x84 20 ∷ up 0x04 20 ∷ up 0x44 19 ∷ []) ((0, 0) ∷ (0, 0) ∷ (1, 60) ∷ []) (pattern 0 59 ++ 0 ∷ unwritten 4)
     ∷ stored (up 0x84 59 ∷ up 0x44 1 ∷ []) ((0, 0) ∷ (1, 60) ∷ []) (pattern 0 60 ++ unwritten 4)
     ∷ stored (up 0x84 1 ∷ up 0x04 59 ∷ up 0x44 1 ∷ []) ((0, 0) ∷ (0, 0) ∷ (1, 61) ∷ []) (pattern 0 61 ++ unwritten 3)
-    -- a packet that is discarded gets no fill
+    -- a packet that is discarded is written up to 1536 bytes, and gets no fill
     ∷ stored (down 0xC4 59 ∷ []) ((6, 0) ∷ []) (pattern 0 59 ++ unwritten 5)
+    ∷ stored (up 0xC4 16 ∷ []) ((5, 0) ∷ []) (pattern 0 16 ++ unwritten 48)
+    ∷ stored (up 0x84 20 ∷ down 0x44 20 ∷ []) ((0, 0) ∷ (6, 0) ∷ []) (pattern 0 40 ++ unwritten 24)
+    ∷ stored (up 0x84 240 ∷ replicate 5 (up 0x04 240) ++ (up 0x44 97 ∷ [])) (replicate 6 (0, 0) ++ ((4, 0) ∷ [])) (pattern 0 1440 ++ unwritten 96)
     -- the records of a journal, with the link up and down
     ∷ journal (transaction 0xC4 (5 ∷ 6 ∷ []) true ∷ transaction 0xCA (0x41 ∷ []) false ∷ []) (0xC4 ∷ 1 ∷ 2 ∷ 5 ∷ 6 ∷ 0xCA ∷ 0 ∷ 1 ∷ 0x41 ∷ [])
     ∷ []

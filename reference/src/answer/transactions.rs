@@ -17,16 +17,6 @@ const MOST_SETTINGS: usize = 64;
 
 const NUMBER_BYTES: usize = 8;
 
-/// Writes a fragment into a store.
-pub fn append(mut fields: Fields) -> Result<Line, Stopped> {
-    let mut store = store(&mut fields)?;
-    let at = fields.u64()?;
-    let fragment = fields.bytes()?;
-    fields.end()?;
-    packet::append(&mut store, at, &fragment);
-    Ok(Line::answer().u32(digest(&store)))
-}
-
 /// Fills a packet up in a store.
 pub fn fill(mut fields: Fields) -> Result<Line, Stopped> {
     let mut store = store(&mut fields)?;

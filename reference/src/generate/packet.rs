@@ -7,47 +7,12 @@ use crate::text::Line;
 const SEED: u64 = 0x0000_9ac4;
 
 const STORE_SEED: u8 = 0x31;
-const FRAGMENT: [u8; 9] = [0xf1, 0xf2, 0xf3, 0xf4, 0xf5, 0xf6, 0xf7, 0xf8, 0xf9];
 
 const STORES: [u16; 13] = [0, 1, 9, 16, 59, 60, 61, 64, 1535, 1536, 1537, 1600, 2048];
 
-/// Far beyond any store, where a sum with a length may wrap round.
+/// Far beyond any store; cut to 16 or 32 bits some would be inside.
 const HUGE: [u64; 7] =
     [1 << 16, 1 << 32, (1 << 32) + 5, 1 << 63, u64::MAX - 9, u64::MAX - 8, u64::MAX];
-
-/// Name, size of the store, place, bytes of the fragment.
-const APPENDS: [(&str, u16, u64, usize); 30] = [
-    ("at 0 of a store of 1536: written", 1536, 0, 9),
-    ("one byte at 0: written", 1536, 0, 1),
-    ("in the middle, at 700: written, the bytes on both sides stay", 1536, 700, 9),
-    ("ending at 1535: written", 1536, 1526, 9),
-    ("ending at 1536, the end of the longest packet: written", 1536, 1527, 9),
-    ("ending at 1537, past the store and the longest packet: nothing", 1536, 1528, 9),
-    ("ending at 1536 of a store of 1537: written", 1537, 1527, 9),
-    ("ending at 1537 of a store of 1537, past the longest packet: nothing", 1537, 1528, 9),
-    ("ending at 1537 of a store of 2048, past the longest packet: nothing", 2048, 1528, 9),
-    ("one byte at 1535: written", 1536, 1535, 1),
-    ("one byte at 1536 of a store of 2048: nothing", 2048, 1536, 1),
-    ("ending at 1535 of a store of 1535: written", 1535, 1526, 9),
-    ("ending at 1536 of a store of 1535, past the store: nothing", 1535, 1527, 9),
-    ("ending at 59 of a store of 59: written", 59, 50, 9),
-    ("ending at 60 of a store of 59, past the store: nothing", 59, 51, 9),
-    ("ending at 60 of a store of 60: written", 60, 51, 9),
-    ("into a store of no bytes: nothing", 0, 0, 9),
-    ("no bytes into a store of no bytes: nothing", 0, 0, 0),
-    ("no bytes at 0: nothing", 1536, 0, 0),
-    ("no bytes at 1536: nothing", 1536, 1536, 0),
-    ("no bytes at 1537: nothing", 1536, 1537, 0),
-    ("no bytes at 2 to the power of 64 less 1: nothing", 1536, u64::MAX, 0),
-    ("at 1536 of a store of 1536: nothing", 1536, 1536, 9),
-    ("at 1537 of a store of 1536: nothing", 1536, 1537, 9),
-    ("at 2 to the power of 63: nothing", 1536, 1 << 63, 9),
-    ("at 2 to the power of 64 less 1, where the sum wraps round to 8: nothing", 1536, u64::MAX, 9),
-    ("one byte at 2 to the power of 64 less 1, sum 0: nothing", 1536, u64::MAX, 1),
-    ("at 2 to the power of 64 less 9, sum 0: nothing", 1536, u64::MAX - 8, 9),
-    ("at 2 to the power of 32, where a cut place would be 0: nothing", 1536, 1 << 32, 9),
-    ("at 2 to the power of 16, where a cut place would be 0: nothing", 1536, 1 << 16, 9),
-];
 
 /// Name, size of the store, length of the packet.
 const FILLS: [(&str, u16, u64); 18] = [
@@ -101,11 +66,6 @@ const SHOWN: [(&str, u16, u64); 20] = [
 
 /// Adds the cases of this subject.
 pub fn generate(cases: &mut Cases) {
-    cases.group("Store: a fragment written");
-    for (name, store, at, bytes) in APPENDS {
-        cases.name(name);
-        cases.case(append(store, STORE_SEED, at, &FRAGMENT[..bytes]));
-    }
     cases.group("Store: a packet filled up");
     for (name, store, length) in FILLS {
         cases.name(name);
@@ -121,22 +81,6 @@ pub fn generate(cases: &mut Cases) {
 }
 
 fn sweeps(cases: &mut Cases) {
-    cases.group("Store: fragments of 0, 1, 2 and 9 bytes around the end of each store and of 1536");
-    for store in STORES {
-        for end in [u64::from(store), 1536] {
-            for bytes in [0, 1, 2, 9] {
-                for at in (end.saturating_sub(bytes as u64 + 1)..).take(3) {
-                    cases.case(append(store, STORE_SEED, at, &FRAGMENT[..bytes]));
-                }
-            }
-        }
-    }
-    cases.group("Store: fragments at places far beyond");
-    for at in HUGE {
-        for (store, bytes) in [(0, 1), (60, 9), (1536, 9), (2048, 8)] {
-            cases.case(append(store, STORE_SEED, at, &FRAGMENT[..bytes]));
-        }
-    }
     cases.group("Store: fill and part for each store and lengths around its edges");
     for store in STORES {
         let edges = [0, 1, 16, 17, 58, 59, 60, 61, 64, 1535, 1536, 1537, 2047, 2048, 2049];
@@ -154,20 +98,12 @@ fn sweeps(cases: &mut Cases) {
 
 fn random(cases: &mut Cases) {
     let mut random = Random::new(SEED);
-    cases.group("Store: random stores, places and fragments");
+    cases.group("Store: random stores and lengths");
     for _ in 0..120 {
         let store = if random.one_in(3) { random.below(2049) as u16 } else { random.pick(&STORES) };
-        let at = random.below(1700);
-        let bytes = random.pick(&[1, 3, 17, 64, 240]);
-        let fragment = random.bytes(bytes);
-        cases.case(append(store, random.byte(), at, &fragment));
         cases.case(of_length("fill", store, random.byte(), random.below(80)));
         cases.case(of_length("shown", store, random.byte(), random.below(1700)));
     }
-}
-
-fn append(store: u16, seed: u8, at: u64, fragment: &[u8]) -> Line {
-    Line::case("append").u16(store).u8(seed).u64(at).bytes(fragment)
 }
 
 fn of_length(operation: &str, store: u16, seed: u8, length: u64) -> Line {

@@ -123,10 +123,14 @@ fn around(accounts: Vec<account::Named>, maximum: u64) -> impl Iterator<Item = N
 }
 
 /// The busy state with another maximum and another open packet.
-fn opened((name, maximum, fragments, bytes): (&str, u64, u64, u64)) -> Named {
+pub fn with_open(maximum: u64, fragments: u64, bytes: u64) -> State {
     let mut account = account::busy();
     set_open(&mut account, fragments, bytes);
-    (name.to_string(), State { account: summed(account), maximum })
+    State { account: summed(account), maximum }
+}
+
+fn opened((name, maximum, fragments, bytes): (&str, u64, u64, u64)) -> Named {
+    (name.to_string(), with_open(maximum, fragments, bytes))
 }
 
 fn random(cases: &mut Cases) {

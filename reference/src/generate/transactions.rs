@@ -1,5 +1,6 @@
 //! Cases of single transactions and of short lists of them, by name.
 
+mod joining;
 mod rejected;
 mod sweeps;
 mod worked;
@@ -47,6 +48,7 @@ type Named = (&'static str, u32, &'static [Send]);
 /// Adds the cases of this subject.
 pub fn generate(cases: &mut Cases) {
     worked::generate(cases);
+    joining::generate(cases);
     rejected::generate(cases);
     sweeps::generate(cases);
 }

@@ -3,8 +3,7 @@ use native.Mathlib.Omega.{arith}
 use borrow.Author.Needs.{needs}
 use denote.Ref.{now}
 use Rattle.prelude.proofs.Tests.{tests}
-use Rattle.translator.specs.Judge.{filledIf, fragment, bySequence, joined}
-use Rattle.translator.proofs.Filled.{unsent-unfilled}
+use Rattle.translator.specs.Judge.{fragment, bySequence}
 use Rattle.translator.proofs.Fits.{joins-within}
 use Rattle.translator.proofs.fragment.fragment.Statement.{statement}
 use Rattle.translator.proofs.fragment.fragment.Tie as tie
@@ -29,37 +28,19 @@ returns-3 : tie.Need-returns-3
 unfolding bySequence
 returns-3 c = rw (in-sequence (c .before .before), c .enum-told .given .1)
 
-returns-4 : tie.Need-returns-4
-unfolding bySequence joined
-returns-4 c =
-    let appends : _ = c .before .before .before in
-    let joins : _ = appends .before .before .before in
-    rw (appends .append .ensures, in-sequence (joins .before .before), joins .sequence .given .1) (search tests)
-
-add-total : tie.Need-add-total
-add-total c =
-    let joins : _ = c .before .before .before .before .before .before in
+join-requires : tie.Need-join-requires
+join-requires c κs =
+    let joins : _ = c .before .before in
     let start : _ = joins .before .before .before .before .before .before .before in
-    record { fits = omega (arith, joins-within (start .args .first) _ _ _ _ (sym (joins .before .before .sequence-of .ensures) ∙ joins .sequence .given .1), start .pre .0, start .pre .1) }
+    let within : _ = joins-within (start .args .first) _ _ _ _ (sym (joins .before .before .sequence-of .ensures) ∙ joins .sequence .given .1) in
+    (omega (arith, within, start .pre .1 .0), (omega (arith, start .pre .0), start .pre .1 .1))
 
-returns-5 : tie.Need-returns-5
-unfolding bySequence joined
-returns-5 c =
-    let completes : _ = c .before in
-    let appends : _ = completes .before .before .before .before in
-    let joins : _ = appends .before .before .before in
-    let unsent : _ = c .match2 .keys2 in
-    rw (appends .append .ensures, in-sequence (joins .before .before), joins .sequence .given .1, ← completes .completed-of .ensures, unsent-unfilled) (search tests)
-
-returns-6 : tie.Need-returns-6
-unfolding bySequence joined filledIf
-returns-6 c =
-    let fills : _ = c .before .before in
-    let sends : _ = fills .before .before in
-    let completes : _ = sends .before .before in
-    let appends : _ = completes .before .before .before .before in
-    let joins : _ = appends .before .before .before in
-    rw (fills .fill .ensures, appends .append .ensures, in-sequence (joins .before .before), joins .sequence .given .1, ← completes .completed-of .ensures, sends .enum-told2 .given .1) (search tests)
+returns-4 : tie.Need-returns-4
+unfolding bySequence
+returns-4 c =
+    let joining : _ = c .before .before in
+    let joins : _ = joining .before .before .before in
+    rw (in-sequence (joins .before .before), joins .sequence .given .1, ← joining .join .ensures)
 
 pub fragment-spec : {M : Type 1} → statement M
 fragment-spec =
@@ -73,14 +54,6 @@ fragment-spec =
     (search needs)
     (search needs)
     returns-3
-    (λ c κs. search needs)
+    join-requires
     (search needs)
-    returns-4
-    add-total
-    (λ c κs. search needs)
-    (search needs)
-    (search needs)
-    returns-5
-    (λ c κs. search needs)
-    (search needs)
-    returns-6)
+    returns-4)

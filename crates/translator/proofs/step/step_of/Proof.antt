@@ -9,7 +9,7 @@ use Rattle.translator.specs.declared.readiness.Readiness.the-variants as
 use Rattle.translator.specs.Transact.{readinessOf}
 use Rattle.translator.proofs.Fits.{tally-fits}
 use Rattle.translator.proofs.HeldRows.{rejected-steps, counted-steps}
-use Rattle.translator.proofs.Readied.{rejected-is, full-is, ready-maximum, ready-fits, judged-few}
+use Rattle.translator.proofs.Readied.{rejected-is, full-is, ready-maximum, ready-room, ready-fits, judged-few}
 use Rattle.translator.proofs.step.step_of.Statement.{statement}
 use Rattle.translator.proofs.step.step_of.Tie as tie
 
@@ -32,7 +32,7 @@ judge-requires : tie.Need-judge-requires
 judge-requires c κs =
     let told : _ = c .before .before .before .before in
     let start : _ = told .before .before .before .before .before in
-    (ready-maximum _ _ _ (is-ready told), ready-fits _ _ _ (is-ready told) (start .pre .formed) .beside .open-bytes)
+    (ready-maximum _ _ _ (is-ready told), (ready-fits _ _ _ (is-ready told) (start .pre .formed) .beside .open-bytes, ready-room _ _ _ (is-ready told)))
 
 -- what is judged counts few bytes
 few : (c : tie.After-judge) → c .judge .result .bytes ≤ maxMaximum

@@ -1,10 +1,10 @@
 use native.Mathlib.Omega.{arith}
 use borrow.Author.Needs.{needs}
 use Rattle.prelude.proofs.Tests.{tests}
-use Rattle.translator.specs.Judge.{completedOf}
+use Rattle.translator.specs.Joining.{completedOf}
 use Rattle.translator.proofs.Fits.{sent-length-within}
-use Rattle.translator.proofs.fragment.completed_of.Statement.{statement}
-use Rattle.translator.proofs.fragment.completed_of.Tie as tie
+use Rattle.translator.proofs.joining.completed_of.Statement.{statement}
+use Rattle.translator.proofs.joining.completed_of.Tie as tie
 
 pub completed-of-spec : {M : Type 1} → statement M
 unfolding completedOf
@@ -13,7 +13,6 @@ completed-of-spec =
     (tie.spec
     (λ c. search tests)
     (λ c. search tests)
-    (λ c. search tests)
     (λ c κs. search needs)
-    (λ c. record { fits = omega (arith, sent-length-within _ (c .before .before .before .if1 .left), c .sent-length .ensures) })
+    (λ c. record { fits = omega (arith, sent-length-within _ (c .before .before .before .pre), c .sent-length .ensures) })
     (λ c. rw (c .sent-length .ensures) (search tests)))
