@@ -52,7 +52,7 @@ enum {
     TCO_NO_ROOM = 12,       /* store or settings too short; nothing changed */
     TCO_NOT_SOUND = 13,     /* state or settings not sound; nothing changed */
     TCO_FULL = 14,          /* account full: its total is TCO_LIMIT; nothing changed */
-    TCO_BAD_STATUS = 15,    /* status field or block not allowed */
+    TCO_BAD_STATUS = 15,    /* status field or block not allowed; a TCO_FIELD says what is bad */
     TCO_BAD_MAXIMUM = 16    /* fragment maximum not 1 to TCO_MAXIMUM */
 };
 
@@ -78,6 +78,18 @@ enum {
     TCO_FLASH_SIZE = 10,    /* the least bytes of a Flash block: host MAC, then IPv4 */
     TCO_STATUS_SIZE = 8,    /* the bytes of a status block */
     TCO_PRINTOUT_SIZE = 846 /* no printout has more bytes */
+};
+
+/* Fields of status data, in the order in which they are judged: with TCO_BAD_STATUS comes the first
+   that is bad. */
+enum {
+    TCO_FIELD_NONE = 0,
+    TCO_FIELD_BLOCK_SIZE = 1,     /* not TCO_STATUS_SIZE bytes */
+    TCO_FIELD_LENGTH = 2,         /* not 1 to 1536, or a reserved bit of its word set */
+    TCO_FIELD_PACKET_STATUS = 3,  /* not 0x0001 */
+    TCO_FIELD_MNG_RESERVED = 4,   /* a reserved bit of the MNG status set */
+    TCO_FIELD_DECISION_INDEX = 5, /* above 7, or above 0 without its match */
+    TCO_FIELD_VLAN_INDEX = 6      /* the same */
 };
 
 /* The total of a full account. */
@@ -121,18 +133,20 @@ typedef struct {
     uint16_t length; /* 1 to 1536, with the check bytes */
     uint16_t vlan;   /* the tag */
     bool decision_match;
-    uint8_t decision_index; /* 0 to 15; 0 without a match */
+    uint8_t decision_index; /* 0 to 7; 0 without a match */
     bool vlan_match;
     uint8_t vlan_index; /* 0 to 7; 0 without a match */
 } tco_status;
 
 typedef struct {
     uint32_t answer;
+    uint32_t field; /* the first bad one where the answer is TCO_BAD_STATUS, else TCO_FIELD_NONE */
     uint8_t block[TCO_STATUS_SIZE];
 } tco_status_written;
 
 typedef struct {
     uint32_t answer;
+    uint32_t field; /* as above */
     tco_status fields;
 } tco_status_read;
 
@@ -178,12 +192,13 @@ tco_part tco_mac_in_force(const uint8_t *settings, size_t settings_len, const ui
 tco_part tco_ipv4_in_force(const uint8_t *settings, size_t settings_len, const uint8_t *flash,
                            size_t flash_len);
 
-/* The status block for these fields, answered 0; eight zero bytes, answered 15, where a field is not
-   allowed. Each match of the fields is 0 or 1. */
+/* The status block for these fields, answered 0; eight zero bytes, answered 15 with the first bad
+   field, where one is not allowed: the length, the decision index or the VLAN index. Each match of
+   the fields is 0 or 1. */
 tco_status_written tco_write_status(tco_status fields);
 
-/* The fields of a status block, answered 0; all fields zero, answered 15, where the bytes are no
-   block that tco_write_status could have written. */
+/* The fields of a status block, answered 0; all fields zero, answered 15 with the first bad field,
+   where the bytes are no block that tco_write_status could have written. */
 tco_status_read tco_read_status(const uint8_t *block, size_t block_len);
 
 /* Judges a Set Link word over a medium, TCO_COPPER or TCO_FIBRE: response, reason, and the word in

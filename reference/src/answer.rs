@@ -164,16 +164,17 @@ fn write_status(mut fields: Fields) -> Result<Line, NotACase> {
         vlan_index: fields.u8()?,
     };
     fields.end()?;
-    let (answer, block) = status::write(&data);
-    Ok(Line::answer().u8(answer).bytes(&block))
+    let (answer, field, block) = status::answered(status::write(&data));
+    Ok(Line::answer().u8(answer).u8(field).bytes(&block))
 }
 
 fn read_status(mut fields: Fields) -> Result<Line, NotACase> {
     let block = fields.bytes()?;
     fields.end()?;
-    let (answer, data) = status::read(&block);
+    let (answer, field, data) = status::answered(status::read(&block));
     Ok(Line::answer()
         .u8(answer)
+        .u8(field)
         .u16(data.length)
         .u16(data.vlan)
         .bool(data.decision_match)

@@ -11,8 +11,8 @@
 //! |---|---|
 //! | `link IN_FORCE/4 WORD/4 HOST_PRESENT/1 MEDIA/1` | `RESPONSE/2 REASON/2 IN_FORCE/4` |
 //! | `links IN_FORCE/4 FROM/4 COUNT/2` | `DIGEST/4` |
-//! | `write-status STATUS` | `ANSWER/1 BLOCK/8` |
-//! | `read-status BLOCK` | `ANSWER/1 STATUS` |
+//! | `write-status STATUS` | `ANSWER/1 FIELD/1 BLOCK/8` |
+//! | `read-status BLOCK` | `ANSWER/1 FIELD/1 STATUS` |
 //! | `fresh-settings SETTINGS` | `ANSWER/1 SETTINGS` |
 //! | `sound-settings SETTINGS` | `SOUND/1` |
 //! | `enable SETTINGS DATA` | `ANSWER/1 SETTINGS` |
@@ -36,8 +36,10 @@
 //! copper, absent on fibre, present on copper, present on fibre; its digest is
 //! over the bytes of the answers that `link` would give. STATUS stands for the
 //! fields `LENGTH/2 VLAN/2 DECISION_MATCH/1 DECISION_INDEX/1 VLAN_MATCH/1
-//! VLAN_INDEX/1`. SOURCE is 00 for no address, 01 for the settings and 02 for
-//! the Flash block.
+//! VLAN_INDEX/1`. FIELD is the first that is bad: 01 for the size of the block,
+//! 02 for the length, 03 for the packet status, 04 for the reserved bits of the
+//! MNG status, 05 for the decision index, 06 for the VLAN index; 00 for none.
+//! SOURCE is 00 for no address, 01 for the settings and 02 for the Flash block.
 //!
 //! A pattern of a size and a seed has the byte (seed + 7 * i) mod 256 at place
 //! i. `fill` and `shown` work on a store of that pattern; `fill` answers with

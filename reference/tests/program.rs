@@ -70,10 +70,17 @@ fn answers_of_every_operation() {
         ("link 00000000 00000219 00 00", "0000 0000 00000219"),
         ("link 00000204 0000010d 00 01", "0001 0902 00000204"),
         ("link 00000204 00000219 01 00", "0001 0901 00000204"),
-        ("write-status 0040 0000 01 07 00 00", "00 4000010000007001"),
-        ("write-status 0601 0000 01 07 00 00", "0f 0000000000000000"),
-        ("read-status 0006010023010d00", "00 0600 0123 00 00 01 05"),
-        ("read-status -", "0f 0000 0000 00 00 00 00"),
+        ("write-status 0040 0000 01 07 00 00", "00 00 4000010000007001"),
+        ("write-status 0601 0000 01 07 00 00", "0f 02 0000000000000000"),
+        ("write-status 0040 0000 01 08 00 00", "0f 05 0000000000000000"),
+        ("write-status 0040 0000 01 07 00 01", "0f 06 0000000000000000"),
+        ("read-status 0006010023010d00", "00 00 0600 0123 00 00 01 05"),
+        ("read-status -", "0f 01 0000 0000 00 00 00 00"),
+        ("read-status 0106010023010d00", "0f 02 0000 0000 00 00 00 00"),
+        ("read-status 0006000023010d00", "0f 03 0000 0000 00 00 00 00"),
+        ("read-status 0006010023010d02", "0f 04 0000 0000 00 00 00 00"),
+        ("read-status 0006010023018d00", "0f 05 0000 0000 00 00 00 00"),
+        ("read-status 0006010023010500", "0f 06 0000 0000 00 00 00 00"),
         ("fresh-settings -", "0c -"),
         ("fresh-settings eeeeeeeeeeeeeeeeeeeeeeeeeeeeeeee", "00 400000000000000000000000000000ee"),
         ("sound-settings 400000000000000000000000000000", "01"),
@@ -416,8 +423,8 @@ fn generated_cases_reach_every_answer() {
     let expected: [(&str, &[&str]); 11] = [
         ("link", &["0000 0000 ", "0001 0002 ", "0001 0901 ", "0001 0902 ", "0001 0903 "]),
         ("link", &["0001 0905 "]),
-        ("write-status", &["00 ", "0f 0000000000000000"]),
-        ("read-status", &["00 ", "0f 0000 0000 00 00 00 00"]),
+        ("write-status", &["00 00 ", "0f 02 ", "0f 05 ", "0f 06 "]),
+        ("read-status", &["00 00 ", "0f 01 ", "0f 02 ", "0f 03 ", "0f 04 ", "0f 05 ", "0f 06 "]),
         ("fresh-settings", &["00 ", "0c "]),
         ("enable", &["08 ", "09 ", "0a ", "0b ", "0c ", "0d "]),
         ("mac", &["00 -", "01 ", "02 "]),
@@ -480,6 +487,47 @@ fn named_accounts_and_states_are_as_sound_as_their_names_say() {
         named += 1;
     }
     assert!(named > 400, "{named}");
+}
+
+#[test]
+fn named_status_cases_are_answered_as_their_names_say() {
+    let (cases, answers) = answered("status");
+    let ends = [
+        ("written", "00 00 "),
+        ("read", "00 00 "),
+        ("size of block", "0f 01 "),
+        ("length", "0f 02 "),
+        ("packet status", "0f 03 "),
+        ("MNG reserved bits", "0f 04 "),
+        ("decision index", "0f 05 "),
+        ("VLAN index", "0f 06 "),
+    ];
+    let mut name = "";
+    let mut named = [0; 8];
+    for (case, answer) in cases.lines().zip(answers.lines()) {
+        if case.is_empty() || case.starts_with('#') {
+            name = case;
+            continue;
+        }
+        let end = name.rsplit_once(": ").map(|(_, end)| end);
+        if let Some(place) = ends.iter().position(|(its_end, _)| end == Some(its_end)) {
+            assert!(answer.starts_with(ends[place].1), "{name}: {answer}");
+            named[place] += 1;
+        }
+    }
+    assert!(named.iter().all(|count| *count > 10), "{named:?}");
+}
+
+#[test]
+fn nothing_but_zeros_comes_back_with_a_bad_status_field() {
+    let (cases, answers) = answered("status");
+    for (case, answer) in cases.lines().zip(answers.lines()) {
+        if let Some(field_and_rest) = answer.strip_prefix("0f ") {
+            let (field, rest) = field_and_rest.split_at(2);
+            assert!(("01"..="06").contains(&field), "{case}: {answer}");
+            assert!(rest.chars().all(|character| "0 ".contains(character)), "{case}: {answer}");
+        }
+    }
 }
 
 /// The digits of the bytes of a text.

@@ -2,7 +2,7 @@
 
 use reference::setlink::{decide, Decision, Media};
 use reference::settings::{fresh, ipv4_in_force, is_sound, mac_in_force, receive_enable};
-use reference::status::{read, write, StatusData};
+use reference::status::{read, write, Field, StatusData};
 
 /// Speed bit and duplex bit of every pair, with the media that take it.
 const PAIRS: [(u32, u32, &[Media]); 8] = [
@@ -88,7 +88,7 @@ fn all_status_data(lengths: &[u16], vlans: &[u16]) -> Vec<StatusData> {
     let mut all = Vec::new();
     for &length in lengths {
         for &vlan in vlans {
-            for (decision_match, decision_index) in matches(15) {
+            for (decision_match, decision_index) in matches(7) {
                 for (vlan_match, vlan_index) in matches(7) {
                     all.push(StatusData {
                         length,
@@ -109,49 +109,111 @@ fn all_status_data(lengths: &[u16], vlans: &[u16]) -> Vec<StatusData> {
 fn what_is_written_is_read_back() {
     let lengths: Vec<u16> = (1..=1536).collect();
     for fields in all_status_data(&lengths, &[0, 0x1234, 0xffff]) {
-        let (answer, block) = write(&fields);
-        assert_eq!(answer, 0, "{fields:?}");
-        assert_eq!(read(&block), (0, fields));
+        let block = write(&fields).expect("fields that are allowed");
+        assert_eq!(read(&block), Ok(fields));
     }
 }
 
 #[test]
 fn nothing_is_read_but_what_is_written() {
-    let written: Vec<[u8; 8]> =
-        all_status_data(&[300], &[0x1234]).iter().map(|fields| write(fields).1).collect();
+    let written: Vec<[u8; 8]> = all_status_data(&[300], &[0x1234]).iter().flat_map(write).collect();
+    assert_eq!(written.len(), 81);
     for value in 0..=0xffff_u16 {
         let [low, high] = value.to_le_bytes();
         let block = [0x2c, 1, 1, 0, 0x34, 0x12, low, high];
-        assert_eq!(read(&block).0 == 0, written.contains(&block), "MNG status {value:#x}");
-        let block = [low, high, 1, 0, 0x34, 0x12, 0, 0];
-        assert_eq!(read(&block).0 == 0, (1..=1536).contains(&value), "length {value}");
-        let block = [0x2c, 1, low, high, 0x34, 0x12, 0, 0];
-        assert_eq!(read(&block).0 == 0, value == 1, "packet status {value:#x}");
+        assert_eq!(read(&block).is_ok(), written.contains(&block), "MNG status {value:#x}");
+        let length_alone = read(&[low, high, 1, 0, 0x34, 0x12, 0, 0]).err();
+        let expected = first_bad(&[(Field::Length, !(1..=1536).contains(&value))]);
+        assert_eq!(length_alone, expected, "length {value}");
+        let packet_status_alone = read(&[0x2c, 1, low, high, 0x34, 0x12, 0, 0]).err();
+        let expected = first_bad(&[(Field::PacketStatus, value != 1)]);
+        assert_eq!(packet_status_alone, expected, "packet status {value:#x}");
         let block = [0x2c, 1, 1, 0, low, high, 0, 0];
-        assert_eq!(read(&block).1.vlan, value);
+        assert_eq!(read(&block).map(|fields| fields.vlan), Ok(value));
+    }
+}
+
+/// Of the fields said to be bad, the one of the lowest number.
+fn first_bad(fields: &[(Field, bool)]) -> Option<Field> {
+    let bad = fields.iter().filter(|(_, is_bad)| *is_bad);
+    bad.map(|(field, _)| *field).min_by_key(|field| *field as u8)
+}
+
+/// The fields of a MNG status, by arithmetic: of 16 values that match and index
+/// of the VLAN filter take together, and of 32 that those of the decision filter
+/// take, the allowed ones are zero and the eight from the match on.
+fn bad_in_mng_status(word: u16) -> [(Field, bool); 3] {
+    let decision = word / 16 % 32;
+    let vlan = word % 16;
+    [
+        (Field::VlanIndex, (1..8).contains(&vlan)),
+        (Field::DecisionIndex, decision != 0 && !(16..24).contains(&decision)),
+        (Field::MngReserved, word >= 512),
+    ]
+}
+
+#[test]
+fn the_first_bad_field_of_a_block_is_named() {
+    let lengths = [1, 1536, 0, 1537, 0x4001, 0x8600];
+    let packet_statuses = [1, 0, 3, 0x8001];
+    for mng_status in 0..=0xffff_u16 {
+        let [vlan_index, decision_index, mng_reserved] = bad_in_mng_status(mng_status);
+        for length in lengths {
+            for packet_status in packet_statuses {
+                let words: [u16; 4] = [length, packet_status, 0xabcd, mng_status];
+                let expected = first_bad(&[
+                    vlan_index,
+                    decision_index,
+                    mng_reserved,
+                    (Field::PacketStatus, packet_status != 1),
+                    (Field::Length, length == 0 || length > 1536),
+                ]);
+                let mut block: Vec<u8> = words.iter().flat_map(|word| word.to_le_bytes()).collect();
+                assert_eq!(read(&block).err(), expected, "{words:x?}");
+                assert_eq!(read(&block[..7]), Err(Field::BlockSize), "{words:x?}");
+                block.push(0);
+                assert_eq!(read(&block), Err(Field::BlockSize), "{words:x?}");
+            }
+        }
     }
 }
 
 #[test]
-fn every_field_is_written_or_not_allowed() {
+fn only_eight_bytes_are_a_block() {
+    for filler in [[0x40, 0, 1, 0, 0, 0, 0x70, 1], [0; 8], [0xff; 8]] {
+        let bytes = filler.repeat(40);
+        for size in (0..bytes.len()).filter(|size| *size != 8) {
+            assert_eq!(read(&bytes[..size]), Err(Field::BlockSize), "{size} bytes");
+        }
+    }
+}
+
+#[test]
+fn the_first_bad_field_to_write_is_named() {
+    let allowed = matches(7);
     for decision_index in 0..=255 {
         for vlan_index in 0..=255 {
             for (decision_match, vlan_match) in
                 [(false, false), (false, true), (true, false), (true, true)]
             {
-                let fields = StatusData {
-                    length: 60,
-                    vlan: 7,
-                    decision_match,
-                    decision_index,
-                    vlan_match,
-                    vlan_index,
-                };
-                let allowed = matches(15).contains(&(decision_match, decision_index))
-                    && matches(7).contains(&(vlan_match, vlan_index));
-                let (answer, block) = write(&fields);
-                assert_eq!(answer, if allowed { 0 } else { 15 }, "{fields:?}");
-                assert_eq!(block == [0; 8], !allowed, "{fields:?}");
+                let bad_vlan = !allowed.contains(&(vlan_match, vlan_index));
+                let bad_decision = !allowed.contains(&(decision_match, decision_index));
+                for length in [1, 60, 1536, 0, 1537, 0x4001, 0xffff] {
+                    let fields = StatusData {
+                        length,
+                        vlan: 7,
+                        decision_match,
+                        decision_index,
+                        vlan_match,
+                        vlan_index,
+                    };
+                    let expected = first_bad(&[
+                        (Field::VlanIndex, bad_vlan),
+                        (Field::DecisionIndex, bad_decision),
+                        (Field::Length, length == 0 || length > 1536),
+                    ]);
+                    assert_eq!(write(&fields).err(), expected, "{fields:?}");
+                }
             }
         }
     }

@@ -9,7 +9,7 @@ use reference::setlink::{decide, Decision, Media, FRESH_WORD};
 use reference::settings::{
     fresh, ipv4_in_force, is_sound, mac_in_force, receive_enable, AddressInForce,
 };
-use reference::status::{read, write, StatusData};
+use reference::status::{answered, read, write, Field, StatusData};
 
 const FLASH: [u8; 10] = [0x00, 0xa0, 0xc9, 1, 2, 3, 203, 0, 113, 9];
 const LONG: [u8; 14] = [0xc9, 2, 3, 4, 5, 6, 7, 8, 9, 10, 11, 12, 13, 14];
@@ -99,16 +99,47 @@ fn status_data() {
         ),
     ];
     for (fields, block) in examples {
-        assert_eq!(write(&fields), (0, block));
-        assert_eq!(read(&block), (0, fields));
+        assert_eq!(write(&fields), Ok(block));
+        assert_eq!(read(&block), Ok(fields));
+        assert_eq!(answered(write(&fields)), (0, 0, block));
+        assert_eq!(answered(read(&block)), (0, 0, fields));
     }
 }
 
 #[test]
-fn status_data_not_allowed() {
-    assert_eq!(write(&StatusData { length: 1537, ..Default::default() }), (15, [0; 8]));
-    assert_eq!(read(&[0; 8]), (15, StatusData::default()));
-    assert_eq!(read(&[0x40, 0, 1, 0, 0, 0, 0]), (15, StatusData::default()));
+fn status_fields_not_allowed() {
+    let good = StatusData { length: 64, ..Default::default() };
+    let examples = [
+        (StatusData { length: 0, ..good }, Field::Length, 2),
+        (StatusData { length: 1537, ..good }, Field::Length, 2),
+        (StatusData { decision_match: true, decision_index: 8, ..good }, Field::DecisionIndex, 5),
+        (StatusData { decision_index: 1, ..good }, Field::DecisionIndex, 5),
+        (StatusData { vlan_match: true, vlan_index: 8, ..good }, Field::VlanIndex, 6),
+        (StatusData { vlan_index: 1, ..good }, Field::VlanIndex, 6),
+    ];
+    for (fields, bad, number) in examples {
+        assert_eq!(write(&fields), Err(bad), "{fields:?}");
+        assert_eq!(answered(write(&fields)), (15, number, [0; 8]), "{fields:?}");
+    }
+}
+
+#[test]
+fn status_blocks_not_allowed() {
+    let examples: [(&[u8], Field, u8); 9] = [
+        (&[0x40, 0, 1, 0, 0, 0, 0], Field::BlockSize, 1),
+        (&[0x40, 0, 1, 0, 0, 0, 0, 0, 0], Field::BlockSize, 1),
+        (&[0, 0, 1, 0, 0, 0, 0, 0], Field::Length, 2),
+        (&[0x40, 0x40, 1, 0, 0, 0, 0, 0], Field::Length, 2),
+        (&[0x40, 0, 0, 0, 0, 0, 0, 0], Field::PacketStatus, 3),
+        (&[0x40, 0, 1, 0, 0, 0, 0, 2], Field::MngReserved, 4),
+        (&[0x40, 0, 1, 0, 0, 0, 0x80, 1], Field::DecisionIndex, 5),
+        (&[0x40, 0, 1, 0, 0, 0, 0x10, 0], Field::DecisionIndex, 5),
+        (&[0x40, 0, 1, 0, 0, 0, 1, 0], Field::VlanIndex, 6),
+    ];
+    for (block, bad, number) in examples {
+        assert_eq!(read(block), Err(bad), "{block:x?}");
+        assert_eq!(answered(read(block)), (15, number, StatusData::default()), "{block:x?}");
+    }
 }
 
 #[test]

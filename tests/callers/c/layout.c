@@ -41,13 +41,15 @@ AT(tco_status, decision_index, 5);
 AT(tco_status, vlan_match, 6);
 AT(tco_status, vlan_index, 7);
 
-SIZE(tco_status_written, 12, 4);
+SIZE(tco_status_written, 16, 4);
 AT(tco_status_written, answer, 0);
-AT(tco_status_written, block, 4);
+AT(tco_status_written, field, 4);
+AT(tco_status_written, block, 8);
 
-SIZE(tco_status_read, 12, 4);
+SIZE(tco_status_read, 16, 4);
 AT(tco_status_read, answer, 0);
-AT(tco_status_read, fields, 4);
+AT(tco_status_read, field, 4);
+AT(tco_status_read, fields, 8);
 
 SIZE(tco_link, 8, 4);
 AT(tco_link, response, 0);
@@ -99,6 +101,15 @@ IS(TCO_SETTINGS_SIZE, 15);
 IS(TCO_FLASH_SIZE, 10);
 IS(TCO_STATUS_SIZE, 8);
 IS(TCO_PRINTOUT_SIZE, 846);
+
+IS(TCO_FIELD_NONE, 0);
+IS(TCO_FIELD_BLOCK_SIZE, 1);
+IS(TCO_FIELD_LENGTH, 2);
+IS(TCO_FIELD_PACKET_STATUS, 3);
+IS(TCO_FIELD_MNG_RESERVED, 4);
+IS(TCO_FIELD_DECISION_INDEX, 5);
+IS(TCO_FIELD_VLAN_INDEX, 6);
+
 IS(TCO_LIMIT, 4294967295);
 
 IS(TCO_NOWHERE, 0);

@@ -70,6 +70,7 @@ pub struct Status {
 #[derive(Clone, Copy, Debug, Default, PartialEq, Eq)]
 pub struct StatusWritten {
     pub answer: u32,
+    pub field: u32,
     pub block: [u8; BLOCK_BYTES],
 }
 
@@ -78,6 +79,7 @@ pub struct StatusWritten {
 #[derive(Clone, Copy, Debug, Default, PartialEq, Eq)]
 pub struct StatusRead {
     pub answer: u32,
+    pub field: u32,
     pub fields: Status,
 }
 
@@ -116,7 +118,7 @@ layout! {
     Part, size 12, align 4, source 0, start 4, length 8;
     Status, size 8, align 2, length 0, vlan 2, decision_match 4, decision_index 5, vlan_match 6,
         vlan_index 7;
-    StatusWritten, size 12, align 4, answer 0, block 4;
-    StatusRead, size 12, align 4, answer 0, fields 4;
+    StatusWritten, size 16, align 4, answer 0, field 4, block 8;
+    StatusRead, size 16, align 4, answer 0, field 4, fields 8;
     Link, size 8, align 4, response 0, reason 2, in_force 4;
 }

@@ -104,22 +104,23 @@ pub fn ipv4_in_force(settings: &[u8], flash: &[u8]) -> Part {
 
 /// `tco_write_status`
 pub fn write_status(fields: Status) -> StatusWritten {
-    let (answer, block) = status::write(&StatusData {
+    let (answer, field, block) = status::answered(status::write(&StatusData {
         length: fields.length,
         vlan: fields.vlan,
         decision_match: fields.decision_match,
         decision_index: fields.decision_index,
         vlan_match: fields.vlan_match,
         vlan_index: fields.vlan_index,
-    });
-    StatusWritten { answer: answer.into(), block }
+    }));
+    StatusWritten { answer: answer.into(), field: field.into(), block }
 }
 
 /// `tco_read_status`
 pub fn read_status(block: &[u8]) -> StatusRead {
-    let (answer, fields) = status::read(block);
+    let (answer, field, fields) = status::answered(status::read(block));
     StatusRead {
         answer: answer.into(),
+        field: field.into(),
         fields: Status {
             length: fields.length,
             vlan: fields.vlan,
