@@ -162,28 +162,104 @@ struct transaction draw_transaction(struct source *source, const tco_state *stat
     return drawn;
 }
 
-tco_status draw_status(struct source *source)
+static tco_status draw_allowed_status(struct source *source)
 {
     tco_status drawn = {.length = (uint16_t)between(source, 1, 1536),
                         .vlan = (uint16_t)below(source, 1 << 16),
                         .decision_match = one_in(source, 2),
                         .vlan_match = one_in(source, 2)};
-    drawn.decision_index = drawn.decision_match ? (uint8_t)below(source, 16) : 0;
+    drawn.decision_index = drawn.decision_match ? (uint8_t)below(source, 8) : 0;
     drawn.vlan_index = drawn.vlan_match ? (uint8_t)below(source, 8) : 0;
-    switch (below(source, 8)) {
+    return drawn;
+}
+
+/* A length, or the word of one in a block, at an edge or with reserved bits. */
+static uint16_t draw_length_word(struct source *source, uint16_t length)
+{
+    return (uint16_t)PICK(source, 0, 1, 1536, 1537, 1 << 14, UINT16_MAX, length | 1 << 14,
+                          length | 1 << 15);
+}
+
+static void alter_status(struct source *source, tco_status *status)
+{
+    switch (below(source, 3)) {
     case 0:
-        drawn.length = (uint16_t)PICK(source, 0, 1, 1536, 1537, 1 << 14, UINT16_MAX);
+        status->length = draw_length_word(source, status->length);
         break;
     case 1:
-        drawn.decision_index = (uint8_t)PICK(source, 0, 1, 15, 16, UINT8_MAX);
-        break;
-    case 2:
-        drawn.vlan_index = (uint8_t)PICK(source, 0, 1, 7, 8, UINT8_MAX);
+        status->decision_index = (uint8_t)PICK(source, 0, 1, 7, 8, 15, 16, UINT8_MAX);
         break;
     default:
-        break;
+        status->vlan_index = (uint8_t)PICK(source, 0, 1, 7, 8, 16, UINT8_MAX);
     }
+}
+
+tco_status draw_status(struct source *source)
+{
+    tco_status drawn = draw_allowed_status(source);
+    for (uint64_t left = below(source, 3); left > 0; left--)
+        alter_status(source, &drawn);
     return drawn;
+}
+
+/* The words of a block, and bits of its MNG status. */
+enum { LENGTH, PACKET_STATUS, VLAN, MNG_STATUS, WORDS };
+enum { VLAN_INDEX = 0, VLAN_MATCH = 3, DECISION_INDEX = 4, DECISION_MATCH = 8, MNG_RESERVED = 9 };
+
+static void draw_allowed_words(struct source *source, uint16_t words[WORDS])
+{
+    tco_status drawn = draw_allowed_status(source);
+    words[LENGTH] = drawn.length;
+    words[PACKET_STATUS] = 0x0001;
+    words[VLAN] = drawn.vlan;
+    words[MNG_STATUS] =
+        (uint16_t)(drawn.decision_match << DECISION_MATCH | drawn.decision_index << DECISION_INDEX |
+                   drawn.vlan_match << VLAN_MATCH | drawn.vlan_index << VLAN_INDEX);
+}
+
+static void turn_bit(struct source *source, uint16_t *word, int lowest, int highest)
+{
+    *word ^= (uint16_t)(1 << (lowest + (int)below(source, (uint64_t)(highest - lowest + 1))));
+}
+
+/* Changes one field of a block, often so that it is bad, or any bit. */
+static void alter_words(struct source *source, uint16_t words[WORDS])
+{
+    switch (below(source, 6)) {
+    case 0:
+        words[LENGTH] = draw_length_word(source, words[LENGTH]);
+        break;
+    case 1:
+        words[PACKET_STATUS] = (uint16_t)PICK(source, 0, 1, 2, 3, 0x0100, 0x8001, UINT16_MAX);
+        break;
+    case 2:
+        turn_bit(source, &words[MNG_STATUS], MNG_RESERVED, 15);
+        break;
+    case 3:
+        turn_bit(source, &words[MNG_STATUS], DECISION_INDEX, DECISION_MATCH);
+        break;
+    case 4:
+        turn_bit(source, &words[MNG_STATUS], VLAN_INDEX, VLAN_MATCH);
+        break;
+    default:
+        turn_bit(source, &words[below(source, WORDS)], 0, 15);
+    }
+}
+
+size_t draw_block(struct source *source, uint8_t block[BLOCK_MOST])
+{
+    uint16_t words[WORDS];
+    draw_allowed_words(source, words);
+    for (uint64_t left = PICK(source, 0, 1, 1, 2, 2); left > 0; left--)
+        alter_words(source, words);
+    fill(source, block, BLOCK_MOST);
+    if (!one_in(source, 8)) {
+        for (int i = 0; i < WORDS; i++) {
+            block[2 * i] = (uint8_t)words[i];
+            block[2 * i + 1] = (uint8_t)(words[i] >> 8);
+        }
+    }
+    return draw_length(source, TCO_STATUS_SIZE, TCO_STATUS_SIZE, BLOCK_MOST);
 }
 
 uint32_t draw_word(struct source *source)

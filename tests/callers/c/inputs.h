@@ -10,7 +10,7 @@ enum {
     STORE_MOST = 2100,
     SETTINGS_MOST = 40,
     FLASH_MOST = 24,
-    BLOCK_MOST = 16,
+    BLOCK_MOST = 20,
     DATA_MOST = 600,
     PRINTOUT_MOST = TCO_PRINTOUT_SIZE + 100
 };
@@ -35,8 +35,11 @@ void alter_settings(struct source *source, uint8_t settings[SETTINGS_MOST]);
 /* A transaction for this state: often one that goes on with its open packet. */
 struct transaction draw_transaction(struct source *source, const tco_state *state);
 
-/* Fields of status data that are allowed, but for one of them at times. */
+/* Fields of status data that are allowed, but for one or two of them at times. */
 tco_status draw_status(struct source *source);
+/* A status block and its size: one that can be read, but for one or two fields or its size at times,
+   or any bytes. */
+size_t draw_block(struct source *source, uint8_t block[BLOCK_MOST]);
 
 /* A Set Link word. */
 uint32_t draw_word(struct source *source);

@@ -202,25 +202,20 @@ static void write_status(struct kept *kept)
     tco_status_written got = tco_write_status(fields);
     tco_status_written wanted = second_write_status(fields);
     same(kept, "answer", got.answer, wanted.answer);
+    same(kept, "field", got.field, wanted.field);
     for (int i = 0; i < TCO_STATUS_SIZE; i++)
         same(kept, "byte of the block", got.block[i], wanted.block[i]);
 }
 
 static void read_status(struct kept *kept)
 {
-    struct source *source = kept->source;
     uint8_t block[BLOCK_MOST];
-    fill(source, block, sizeof block);
-    tco_status_written written = second_write_status(draw_status(source));
-    if (!one_in(source, 8))
-        memcpy(block, written.block, sizeof written.block);
-    if (one_in(source, 4))
-        block[below(source, TCO_STATUS_SIZE)] ^= (uint8_t)(1 << below(source, 8));
-    size_t length = draw_length(source, TCO_STATUS_SIZE, TCO_STATUS_SIZE, BLOCK_MOST);
+    size_t length = draw_block(kept->source, block);
     const uint8_t *lent = lend(kept, &of_bytes, block, length);
     tco_status_read got = tco_read_status(lent, length);
     tco_status_read wanted = second_read_status(block, length);
     same(kept, "answer", got.answer, wanted.answer);
+    same(kept, "field", got.field, wanted.field);
     same(kept, "length", got.fields.length, wanted.fields.length);
     same(kept, "VLAN", got.fields.vlan, wanted.fields.vlan);
     same(kept, "decision match", got.fields.decision_match, wanted.fields.decision_match);

@@ -13,10 +13,19 @@ use reference::translator::{
 };
 use second::interface::{Status, BLOCK_BYTES};
 
-/// The most bytes of a store, of settings and of data that are lent.
+/// The most bytes of a store, of settings, of data and of a status block that
+/// are lent.
 pub const STORE_MOST: usize = 2100;
 pub const SETTINGS_MOST: usize = 40;
 pub const DATA_MOST: usize = 600;
+pub const BLOCK_MOST: usize = 20;
+
+/// The lowest bits of the fields of a status block. The match of an index lies
+/// above it.
+const PACKET_STATUS_BIT: u64 = 16;
+const VLAN_INDEX_BIT: u64 = 48;
+const DECISION_INDEX_BIT: u64 = 52;
+const MNG_RESERVED_BIT: u64 = 57;
 
 /// A transaction.
 pub struct Transaction {
@@ -191,47 +200,77 @@ fn fragment_length(random: &mut Random, state: &State) -> usize {
     length as usize
 }
 
-/// Fields of status data that are allowed, but for one of them at times.
+/// Fields of status data that are allowed, but for one or two of them at times.
 pub fn status(random: &mut Random) -> Status {
-    let mut status = Status {
-        length: random.between(1, LONGEST_PACKET) as u16,
-        vlan: random.u16(),
-        decision_match: random.one_in(2),
-        decision_index: 0,
-        vlan_match: random.one_in(2),
-        vlan_index: 0,
-    };
-    if status.decision_match {
-        status.decision_index = random.below(16) as u8;
-    }
-    if status.vlan_match {
-        status.vlan_index = random.below(8) as u8;
-    }
-    match random.below(8) {
-        0 => status.length = random.pick(&[0, 1, 1536, 1537, 1 << 14, u16::MAX]),
-        1 => status.decision_index = random.pick(&[0, 1, 15, 16, u8::MAX]),
-        2 => status.vlan_index = random.pick(&[0, 1, 7, 8, u8::MAX]),
-        _ => {}
+    let mut status = allowed_status(random);
+    for _ in 0..random.below(3) {
+        alter_status(random, &mut status);
     }
     status
 }
 
-/// A status block: one that can be read, often with a bit turned or of another
-/// length, or any bytes.
+fn allowed_status(random: &mut Random) -> Status {
+    let mut status = Status {
+        length: random.between(1, LONGEST_PACKET) as u16,
+        vlan: random.u16(),
+        decision_match: random.one_in(2),
+        vlan_match: random.one_in(2),
+        ..Status::default()
+    };
+    if status.decision_match {
+        status.decision_index = random.below(8) as u8;
+    }
+    if status.vlan_match {
+        status.vlan_index = random.below(8) as u8;
+    }
+    status
+}
+
+fn alter_status(random: &mut Random, status: &mut Status) {
+    match random.below(3) {
+        0 => status.length = length_word(random, status.length),
+        1 => status.decision_index = random.pick(&[0, 1, 7, 8, 15, 16, u8::MAX]),
+        _ => status.vlan_index = random.pick(&[0, 1, 7, 8, 16, u8::MAX]),
+    }
+}
+
+/// A length, or the word of one in a block, at an edge or with reserved bits.
+fn length_word(random: &mut Random, length: u16) -> u16 {
+    random.pick(&[0, 1, 1536, 1537, 1 << 14, u16::MAX, length | 1 << 14, length | 1 << 15])
+}
+
+/// A status block: one that can be read, but for one or two fields or its size
+/// at times, or any bytes.
 pub fn block(random: &mut Random) -> Vec<u8> {
-    if random.one_in(8) {
-        let length = random.below(2 * BLOCK_BYTES as u64) as usize;
-        return random.bytes(length);
+    let mut block = if random.one_in(8) {
+        random.bytes(BLOCK_BYTES)
+    } else {
+        second::write_status(allowed_status(random)).block.to_vec()
+    };
+    for _ in 0..random.below(3) {
+        alter_block(random, &mut block);
     }
-    let mut block = second::write_status(status(random)).block.to_vec();
-    if random.one_in(4) {
-        let bit = random.below(8 * BLOCK_BYTES as u64) as usize;
-        block[bit / 8] ^= 1 << (bit % 8);
-    }
-    if random.one_in(8) {
-        block.resize(random.below(2 * BLOCK_BYTES as u64) as usize, 0);
-    }
+    let size = length(random, BLOCK_BYTES, BLOCK_BYTES, BLOCK_MOST);
+    block.resize(size, random.byte());
     block
+}
+
+/// Changes one field of a block, often so that it is bad, or any bit. Bits are
+/// numbered through the whole block.
+fn alter_block(random: &mut Random, block: &mut [u8]) {
+    let bit = match random.below(6) {
+        0 => {
+            let length = u16::from_le_bytes([block[0], block[1]]);
+            block[..2].copy_from_slice(&length_word(random, length).to_le_bytes());
+            return;
+        }
+        1 => PACKET_STATUS_BIT + random.below(16),
+        2 => VLAN_INDEX_BIT + random.below(4),
+        3 => DECISION_INDEX_BIT + random.below(5),
+        4 => MNG_RESERVED_BIT + random.below(7),
+        _ => random.below(8 * BLOCK_BYTES as u64),
+    } as usize;
+    block[bit / 8] ^= 1 << (bit % 8);
 }
 
 /// A Set Link word.
