@@ -6,6 +6,7 @@ use crate::answer::put_u16;
 use crate::buffer::Buffer;
 use crate::buffer::NOT_A_CASE;
 use crate::fields;
+use status::Answer;
 use status::Fields;
 
 // Answers as link::answer does.
@@ -28,19 +29,27 @@ fn answer_write(bytes: &Buffer, ends: &[usize], text: &mut Buffer) -> usize {
         vlan_match: fields::flag_at(bytes, ends, 5),
         vlan_index: fields::u8_at(bytes, ends, 6),
     });
+    let answer = written.answer;
     let block = written.block;
-    let end = put_u8(text, 0, (written.answer % 256) as u8);
+    let end = put_answer(text, answer);
     put_bytes(text, end, &block)
 }
 
 fn answer_read(bytes: &Buffer, ends: &[usize], text: &mut Buffer) -> usize {
     let parsed = status::read(fields::at(bytes, ends, 1));
+    let answer = parsed.answer;
     let found = parsed.fields;
-    let end = put_u8(text, 0, (parsed.answer % 256) as u8);
+    let end = put_answer(text, answer);
     let end = put_u16(text, end, found.length);
     let end = put_u16(text, end, found.vlan);
     let end = put_flag(text, end, found.decision_match);
     let end = put_u8(text, end, found.decision_index);
     let end = put_flag(text, end, found.vlan_match);
     put_u8(text, end, found.vlan_index)
+}
+
+// Puts the answer number and that of the bad field, and answers where they end.
+fn put_answer(text: &mut Buffer, answer: Answer) -> usize {
+    let end = put_u8(text, 0, (status::number(answer) % 256) as u8);
+    put_u8(text, end, (status::bad_field(answer) % 256) as u8)
 }

@@ -1,2 +1,3 @@
-pub mod Properties
+pub mod FirstBad
+pub mod RoundTrip
 pub mod Unique

@@ -1,8 +1,16 @@
 // The eight bytes of status data that the Intel I210 adds to a received packet (data sheet,
 // Tables 10-17 to 10-20), written and read.
+mod judge;
+
+pub use judge::Answer;
+pub use judge::Field;
+use judge::PACKET_STATUS;
+pub use judge::bad_field;
+use judge::judge;
+pub use judge::number;
 ghost use mathlib.Core.Path.{_≡_};
 ghost use Prim.Native.Nat.{_+_, _*_, _≤_};
-ghost use Rattle.status.specs.Block.{indexAllowed, allowed, flag, mngStatus, written, parsedWords, parsed};
+ghost use Rattle.status.specs.Block.{matchBit, mngStatus, written, fieldsOf, mngReserved, parsedWords, parsed};
 
 // What a block holds. The length counts the packet's four check bytes.
 #[repr(C)]
@@ -15,36 +23,21 @@ pub struct Fields {
     pub vlan_index: u8,
 }
 
-// The answer is 0, or 15 with eight zero bytes where the fields are not allowed.
-#[repr(C)]
+// The block, of zeros where a field is bad.
 pub struct Written {
-    pub answer: u32,
-    pub block: [u8; 8],
+    pub answer: Answer,
+    pub block: [u8; BLOCK_SIZE],
 }
 
-// The answer is 0, or 15 with all fields zero where the bytes are no block.
-#[repr(C)]
+// The fields, all zero where one is bad.
 pub struct Parsed {
-    pub answer: u32,
+    pub answer: Answer,
     pub fields: Fields,
 }
 
-const DONE: u32 = 0;
+pub const BLOCK_SIZE: usize = 8;
 
-const NOT_ALLOWED: u32 = 15;
-
-const MAX_LENGTH: u16 = 1536;
-
-const PACKET_STATUS: u16 = 0x0001;
-
-const MAX_DECISION_INDEX: u8 = 15;
-
-const MAX_VLAN_INDEX: u8 = 7;
-
-// The weight of the lowest bit of each part of a word: what is reserved above the length, and the
-// parts of the MNG status above the VLAN index.
-const LENGTH_RESERVED: u16 = 0x4000;
-
+// The weight of the lowest bit of each part of the MNG status above the VLAN index.
 const MNG_RESERVED: u16 = 0x200;
 
 const DECISION_MATCH: u16 = 0x100;
@@ -53,31 +46,29 @@ const DECISION_INDEX: u16 = 0x10;
 
 const VLAN_MATCH: u16 = 0x8;
 
-const REFUSED: Parsed = Parsed {
-    answer: NOT_ALLOWED,
-    fields: Fields {
-        length: 0,
-        vlan: 0,
-        decision_match: false,
-        decision_index: 0,
-        vlan_match: false,
-        vlan_index: 0,
-    },
+const NO_FIELDS: Fields = Fields {
+    length: 0,
+    vlan: 0,
+    decision_match: false,
+    decision_index: 0,
+    vlan_match: false,
+    vlan_index: 0,
 };
 
 // The block for these fields.
 pub fn write(fields: Fields) -> Written
     ensures { λ r. ⌜ r ≡ written fields ⌝ }
 {
-    if !is_allowed(fields) {
+    let answer = judge(fields, PACKET_STATUS, 0);
+    let Answer::Done = answer else {
         return Written {
-            answer: NOT_ALLOWED,
-            block: [0; 8],
+            answer,
+            block: [0; BLOCK_SIZE],
         };
-    }
+    };
     let mng = mng_status(fields);
     Written {
-        answer: DONE,
+        answer,
         block: [
             (fields.length % 256) as u8,
             (fields.length / 256) as u8,
@@ -95,8 +86,11 @@ pub fn write(fields: Fields) -> Written
 pub fn read(block: &[u8]) -> Parsed
     ensures { λ r. ⌜ r ≡ parsed (now (block .entry)) ⌝ }
 {
-    if block.len() != 8 {
-        return REFUSED;
+    if block.len() != BLOCK_SIZE {
+        return Parsed {
+            answer: Answer::NotAllowed(Field::BlockSize),
+            fields: NO_FIELDS,
+        };
     }
     let length = word(block[0], block[1]);
     let status = word(block[2], block[3]);
@@ -108,58 +102,34 @@ pub fn read(block: &[u8]) -> Parsed
 fn read_words(length: u16, status: u16, vlan: u16, mng: u16) -> Parsed
     ensures { λ r. ⌜ r ≡ parsedWords length status vlan mng ⌝ }
 {
-    if 0 < length / LENGTH_RESERVED % 4 {
-        return REFUSED;
-    }
-    if status != PACKET_STATUS {
-        return REFUSED;
-    }
-    if 0 < mng / MNG_RESERVED % 128 {
-        return REFUSED;
-    }
-    let fields = Fields {
-        length: length % LENGTH_RESERVED,
+    let fields = fields_of(length, vlan, mng);
+    let answer = judge(fields, status, mng_reserved(mng));
+    let Answer::Done = answer else {
+        return Parsed {
+            answer,
+            fields: NO_FIELDS,
+        };
+    };
+    Parsed { answer, fields }
+}
+
+fn fields_of(length: u16, vlan: u16, mng: u16) -> Fields
+    ensures { λ r. ⌜ r ≡ fieldsOf length vlan mng ⌝ }
+{
+    Fields {
+        length,
         vlan,
         decision_match: mng / DECISION_MATCH % 2 == 1,
         decision_index: (mng / DECISION_INDEX % 16) as u8,
         vlan_match: mng / VLAN_MATCH % 2 == 1,
         vlan_index: (mng % VLAN_MATCH) as u8,
-    };
-    if !is_allowed(fields) {
-        return REFUSED;
-    }
-    Parsed {
-        answer: DONE,
-        fields,
     }
 }
 
-fn is_allowed(fields: Fields) -> bool
-    ensures { λ r. ⌜ r ≡ allowed fields ⌝ }
+fn mng_reserved(mng: u16) -> u16
+    ensures { λ r. ⌜ r ≡ mngReserved mng ⌝ }
 {
-    if fields.length < 1 {
-        return false;
-    }
-    if MAX_LENGTH < fields.length {
-        return false;
-    }
-    if !is_index_allowed(
-        fields.decision_match,
-        fields.decision_index,
-        MAX_DECISION_INDEX,
-    ) {
-        return false;
-    }
-    is_index_allowed(fields.vlan_match, fields.vlan_index, MAX_VLAN_INDEX)
-}
-
-fn is_index_allowed(matched: bool, index: u8, max: u8) -> bool
-    ensures { λ r. ⌜ r ≡ indexAllowed matched index max ⌝ }
-{
-    if matched {
-        return index <= max;
-    }
-    index == 0
+    mng / MNG_RESERVED
 }
 
 fn mng_status(fields: Fields) -> u16
@@ -172,7 +142,7 @@ fn mng_status(fields: Fields) -> u16
 }
 
 fn match_bit(matched: bool, weight: u16) -> u16
-    ensures { λ r. ⌜ (r ≡ flag matched weight) × (r ≤ weight) ⌝ }
+    ensures { λ r. ⌜ (r ≡ matchBit matched weight) × (r ≤ weight) ⌝ }
 {
     if matched { weight } else { 0 }
 }

@@ -8,9 +8,8 @@ use setlink::Media;
 use state::Account;
 use state::Made;
 use state::State;
+use status::BLOCK_SIZE;
 use status::Fields;
-use status::Parsed;
-use status::Written;
 ghost use mathlib.Core.Path.{_≡_};
 ghost use Rattle.address.specs.Address.{sourceOf};
 ghost use Rattle.printout.specs.Printout.{written as Printout·written, printed};
@@ -21,6 +20,7 @@ ghost use Rattle.status.specs.Block.{written, parsed};
 ghost use Rattle.tco.specs.Reply.{InPlace};
 ghost use Rattle.tco.specs.Part.{shownLength, partFrom, macInForce, ipv4InForce};
 ghost use Rattle.tco.specs.Link.{decidedOver};
+ghost use Rattle.tco.specs.Status.{writtenInNumbers, readInNumbers};
 
 // A part of the settings or of Flash: its source, where it starts and its length. All is zero where
 // there is none.
@@ -29,6 +29,23 @@ pub struct Part {
     pub source: u32,
     pub start: u32,
     pub length: u32,
+}
+
+// The block that status data is written as. `field` is the number of the first bad field, 0 where
+// none is.
+#[repr(C)]
+pub struct StatusWritten {
+    pub answer: u32,
+    pub field: u32,
+    pub block: [u8; BLOCK_SIZE],
+}
+
+// The fields that a status block is read as, with `field` as above.
+#[repr(C)]
+pub struct StatusRead {
+    pub answer: u32,
+    pub field: u32,
+    pub fields: Fields,
 }
 
 // A state after a transaction, and the reply.
@@ -182,18 +199,32 @@ fn in_force(
 
 // The status block for these fields.
 #[no_mangle]
-pub extern "C" fn tco_write_status(fields: Fields) -> Written
-    ensures { λ r. ⌜ r ≡ written fields ⌝ }
+pub extern "C" fn tco_write_status(fields: Fields) -> StatusWritten
+    ensures { λ r. ⌜ r ≡ writtenInNumbers (written fields) ⌝ }
 {
-    status::write(fields)
+    let written = status::write(fields);
+    let answer = written.answer;
+    let block = written.block;
+    StatusWritten {
+        answer: status::number(answer),
+        field: status::bad_field(answer),
+        block,
+    }
 }
 
 // The fields of a status block.
 #[no_mangle]
-pub extern "C" fn tco_read_status(block: &[u8]) -> Parsed
-    ensures { λ r. ⌜ r ≡ parsed (now (block .entry)) ⌝ }
+pub extern "C" fn tco_read_status(block: &[u8]) -> StatusRead
+    ensures { λ r. ⌜ r ≡ readInNumbers (parsed (now (block .entry))) ⌝ }
 {
-    status::read(block)
+    let parsed = status::read(block);
+    let answer = parsed.answer;
+    let fields = parsed.fields;
+    StatusRead {
+        answer: status::number(answer),
+        field: status::bad_field(answer),
+        fields,
+    }
 }
 
 // Judges a Set Link word over a medium, COPPER or FIBRE; over any other it is an invalid parameter.

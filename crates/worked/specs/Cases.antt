@@ -11,6 +11,7 @@ use Rattle.setlink.specs.declared.Decision.{Decision}
 use Rattle.setlink.specs.declared.Media.{Media}
 use Rattle.setlink.specs.Decide.{decided, freshWord}
 use Rattle.status.specs.declared.Fields.{Fields}
+use Rattle.status.specs.Judged.{numberOf as Status·numberOf, badField}
 use Rattle.status.specs.Block.{written, parsed}
 use Rattle.settings.specs.Enable.{freshened}
 use Rattle.address.specs.declared.Address.the-variants.{Mac, Ipv4}
@@ -137,9 +138,9 @@ pub data Case : Type 0 where
   -- the addresses in force, of settings and a Flash block
   addresses : (settings flash mac ipv4 : List ℕ) → Case
   link : (word : ℕ) → (hostPresent : Bool) → Media → Decision → Case
-  -- fields written, with the answer and the block; and a block read, with the answer and whether it gives these fields
-  writes : Fields → (answer : ℕ) → (block : List ℕ) → Case
-  reads : (block : List ℕ) → (answer : ℕ) → Fields → Case
+  -- status fields written: the answer with the bad field, and the block; and a block read: the answer with the bad field, and the fields
+  writes : Fields → (answer field : ℕ) → (block : List ℕ) → Case
+  reads : (block : List ℕ) → (answer field : ℕ) → Fields → Case
   -- the records of a journal, written and read
   journal : List Transaction → (bytes : List ℕ) → Case
 
@@ -160,8 +161,10 @@ Holds (addresses settings flash mac ipv4) =
     (inForce Mac (record { ptr = (0, 0); name = 0; now = settings }) (record { ptr = (1, 0); name = 1; now = flash }) .bytes ≡ mac)
     × (inForce Ipv4 (record { ptr = (0, 0); name = 0; now = settings }) (record { ptr = (1, 0); name = 1; now = flash }) .bytes ≡ ipv4)
 Holds (link word hostPresent media expected) = decided freshWord word hostPresent media ≡ expected
-Holds (writes fields answer block) = written fields ≡ record { answer = answer; block = block }
-Holds (reads block answer fields) = parsed block ≡ record { answer = answer; fields = fields }
+Holds (writes fields answer field block) =
+    _≡_ {A = ℕ × ℕ × List ℕ} (Status·numberOf (written fields .answer), badField (written fields .answer), written fields .block) (answer, field, block)
+Holds (reads block answer field fields) =
+    _≡_ {A = ℕ × ℕ × Fields} (Status·numberOf (parsed block .answer), badField (parsed block .answer), parsed block .fields) (answer, field, fields)
 Holds (journal transactions bytes) =
     (recordsOf transactions ≡ bytes) × (recordsIn bytes ≡ record { transactions = transactions; used = length bytes; badLink = false })
 

@@ -27,6 +27,10 @@ indices decisionMatch decision vlanMatch vlan =
 abbrev pub noFields : Fields
 noFields = record { length = 0; vlan = 0; «decision_match» = false; «decision_index» = 0; «vlan_match» = false; «vlan_index» = 0 }
 
+-- bad in length, decision index and VLAN index (manual 6.2, 6.5)
+abbrev pub allBad : Fields
+allBad = record { length = 0; vlan = 0; «decision_match» = true; «decision_index» = 8; «vlan_match» = false; «vlan_index» = 1 }
+
 -- fresh settings, byte for byte; settings that are not sound; a state that is not sound, and one whose account is full (manual 5.4, 5.7, 8.6, 8.7)
 abbrev pub freshBytes : List ℕ
 freshBytes = 0x40 ∷ replicate 14 0
@@ -86,7 +90,7 @@ cases =
     ∷ link 0x10D false Fibre (refused 0x0902)
     ∷ link 0x30C false Copper (refused 0x0905)
     -- W13: status data
-    ∷ writes decision7 0 (0x40 ∷ 0x00 ∷ 0x01 ∷ 0x00 ∷ 0x00 ∷ 0x00 ∷ 0x70 ∷ 0x01 ∷ [])
+    ∷ writes decision7 0 0 (0x40 ∷ 0x00 ∷ 0x01 ∷ 0x00 ∷ 0x00 ∷ 0x00 ∷ 0x70 ∷ 0x01 ∷ [])
     ∷ []
 
 -- manual 10.2
@@ -129,23 +133,6 @@ further =
     ∷ maximum 240 0 240
     ∷ maximum 241 16 240
     ∷ maximum 0 16 240
-    -- the largest length with a VLAN tag whose two bytes differ, written and read, and one more
-    ∷ writes (vlan5 1536) 0 (0x00 ∷ 0x06 ∷ 0x01 ∷ 0x00 ∷ 0x23 ∷ 0x01 ∷ 0x0D ∷ 0x00 ∷ [])
-    ∷ reads (0x00 ∷ 0x06 ∷ 0x01 ∷ 0x00 ∷ 0x23 ∷ 0x01 ∷ 0x0D ∷ 0x00 ∷ []) 0 (vlan5 1536)
-    ∷ writes (vlan5 1537) 15 (replicate 8 0)
-    ∷ reads (0x01 ∷ 0x06 ∷ 0x01 ∷ 0x00 ∷ 0x23 ∷ 0x01 ∷ 0x0D ∷ 0x00 ∷ []) 15 noFields
-    -- the least length, written and read, and none
-    ∷ writes (vlan5 1) 0 (0x01 ∷ 0x00 ∷ 0x01 ∷ 0x00 ∷ 0x23 ∷ 0x01 ∷ 0x0D ∷ 0x00 ∷ [])
-    ∷ reads (0x01 ∷ 0x00 ∷ 0x01 ∷ 0x00 ∷ 0x23 ∷ 0x01 ∷ 0x0D ∷ 0x00 ∷ []) 0 (vlan5 1)
-    ∷ writes (vlan5 0) 15 (replicate 8 0)
-    ∷ reads (0x00 ∷ 0x00 ∷ 0x01 ∷ 0x00 ∷ 0x23 ∷ 0x01 ∷ 0x0D ∷ 0x00 ∷ []) 15 noFields
-    -- the largest indices, written and read; each of them one more, and each without its match
-    ∷ writes (indices true 15 true 7) 0 (0x40 ∷ 0x00 ∷ 0x01 ∷ 0x00 ∷ 0x00 ∷ 0x00 ∷ 0xFF ∷ 0x01 ∷ [])
-    ∷ reads (0x40 ∷ 0x00 ∷ 0x01 ∷ 0x00 ∷ 0x00 ∷ 0x00 ∷ 0xFF ∷ 0x01 ∷ []) 0 (indices true 15 true 7)
-    ∷ writes (indices true 16 true 7) 15 (replicate 8 0)
-    ∷ writes (indices true 15 true 8) 15 (replicate 8 0)
-    ∷ writes (indices false 1 true 7) 15 (replicate 8 0)
-    ∷ writes (indices true 15 false 1) 15 (replicate 8 0)
     -- a First while a packet is open
     ∷ counted (up 0x84 20 ∷ up 0xC4 20 ∷ []) ((0, 0) ∷ (1, 60) ∷ []) (counting 240 (line sent 1 1 20 ∷ line superseded 1 1 20 ∷ []) 0 0 2)
     -- a First of a bad length while a packet is open breaks it: without bytes, and with one byte too many
@@ -266,5 +253,56 @@ reservedBits =
     map (λ (bit : ℕ). link (0x204 + 2 ^ bit) false Copper (refused 0x0002))
     (5 ∷ 6 ∷ 7 ∷ 12 ∷ 13 ∷ 14 ∷ 15 ∷ 16 ∷ 17 ∷ 18 ∷ 19 ∷ 20 ∷ 21 ∷ 22 ∷ 23 ∷ 24 ∷ 25 ∷ 26 ∷ 27 ∷ 28 ∷ 29 ∷ 30 ∷ 31 ∷ [])
 
+-- status data: each field at its edges, and which of two is named (manual 6.2 to 6.6)
+abbrev pub statusData : List Case
+statusData =
+    -- the largest length with a VLAN tag whose two bytes differ, written and read, and one more
+    writes (vlan5 1536) 0 0 (0x00 ∷ 0x06 ∷ 0x01 ∷ 0x00 ∷ 0x23 ∷ 0x01 ∷ 0x0D ∷ 0x00 ∷ [])
+    ∷ reads (0x00 ∷ 0x06 ∷ 0x01 ∷ 0x00 ∷ 0x23 ∷ 0x01 ∷ 0x0D ∷ 0x00 ∷ []) 0 0 (vlan5 1536)
+    ∷ writes (vlan5 1537) 15 2 (replicate 8 0)
+    ∷ reads (0x01 ∷ 0x06 ∷ 0x01 ∷ 0x00 ∷ 0x23 ∷ 0x01 ∷ 0x0D ∷ 0x00 ∷ []) 15 2 noFields
+    -- the least length, written and read, and none
+    ∷ writes (vlan5 1) 0 0 (0x01 ∷ 0x00 ∷ 0x01 ∷ 0x00 ∷ 0x23 ∷ 0x01 ∷ 0x0D ∷ 0x00 ∷ [])
+    ∷ reads (0x01 ∷ 0x00 ∷ 0x01 ∷ 0x00 ∷ 0x23 ∷ 0x01 ∷ 0x0D ∷ 0x00 ∷ []) 0 0 (vlan5 1)
+    ∷ writes (vlan5 0) 15 2 (replicate 8 0)
+    ∷ reads (0x00 ∷ 0x00 ∷ 0x01 ∷ 0x00 ∷ 0x23 ∷ 0x01 ∷ 0x0D ∷ 0x00 ∷ []) 15 2 noFields
+    -- each reserved bit of the length, which is not cut
+    ∷ writes (vlan5 16448) 15 2 (replicate 8 0)
+    ∷ reads (0x40 ∷ 0x40 ∷ 0x01 ∷ 0x00 ∷ 0x23 ∷ 0x01 ∷ 0x0D ∷ 0x00 ∷ []) 15 2 noFields
+    ∷ writes (vlan5 32832) 15 2 (replicate 8 0)
+    ∷ reads (0x40 ∷ 0x80 ∷ 0x01 ∷ 0x00 ∷ 0x23 ∷ 0x01 ∷ 0x0D ∷ 0x00 ∷ []) 15 2 noFields
+    -- other packet statuses: CRC not stripped, VLAN stripped, the highest reserved bit
+    ∷ reads (0x40 ∷ 0x00 ∷ 0x00 ∷ 0x00 ∷ 0x23 ∷ 0x01 ∷ 0x0D ∷ 0x00 ∷ []) 15 3 noFields
+    ∷ reads (0x40 ∷ 0x00 ∷ 0x03 ∷ 0x00 ∷ 0x23 ∷ 0x01 ∷ 0x0D ∷ 0x00 ∷ []) 15 3 noFields
+    ∷ reads (0x40 ∷ 0x00 ∷ 0x01 ∷ 0x80 ∷ 0x23 ∷ 0x01 ∷ 0x0D ∷ 0x00 ∷ []) 15 3 noFields
+    -- the lowest and the highest reserved bit of the MNG status
+    ∷ reads (0x40 ∷ 0x00 ∷ 0x01 ∷ 0x00 ∷ 0x23 ∷ 0x01 ∷ 0x0D ∷ 0x02 ∷ []) 15 4 noFields
+    ∷ reads (0x40 ∷ 0x00 ∷ 0x01 ∷ 0x00 ∷ 0x23 ∷ 0x01 ∷ 0x0D ∷ 0x80 ∷ []) 15 4 noFields
+    -- the largest indices, written and read; each of them one more, and each without its match
+    ∷ writes (indices true 7 true 7) 0 0 (0x40 ∷ 0x00 ∷ 0x01 ∷ 0x00 ∷ 0x00 ∷ 0x00 ∷ 0x7F ∷ 0x01 ∷ [])
+    ∷ reads (0x40 ∷ 0x00 ∷ 0x01 ∷ 0x00 ∷ 0x00 ∷ 0x00 ∷ 0x7F ∷ 0x01 ∷ []) 0 0 (indices true 7 true 7)
+    ∷ writes (indices true 8 true 7) 15 5 (replicate 8 0)
+    ∷ reads (0x40 ∷ 0x00 ∷ 0x01 ∷ 0x00 ∷ 0x00 ∷ 0x00 ∷ 0x8F ∷ 0x01 ∷ []) 15 5 noFields
+    ∷ writes (indices true 255 true 7) 15 5 (replicate 8 0)
+    ∷ reads (0x40 ∷ 0x00 ∷ 0x01 ∷ 0x00 ∷ 0x00 ∷ 0x00 ∷ 0xFF ∷ 0x01 ∷ []) 15 5 noFields
+    ∷ writes (indices true 7 true 8) 15 6 (replicate 8 0)
+    ∷ writes (indices false 1 true 7) 15 5 (replicate 8 0)
+    ∷ reads (0x40 ∷ 0x00 ∷ 0x01 ∷ 0x00 ∷ 0x00 ∷ 0x00 ∷ 0x1F ∷ 0x00 ∷ []) 15 5 noFields
+    ∷ writes (indices true 7 false 1) 15 6 (replicate 8 0)
+    ∷ reads (0x40 ∷ 0x00 ∷ 0x01 ∷ 0x00 ∷ 0x00 ∷ 0x00 ∷ 0x71 ∷ 0x01 ∷ []) 15 6 noFields
+    -- blocks of seven and of nine bytes
+    ∷ reads (0x40 ∷ 0x00 ∷ 0x01 ∷ 0x00 ∷ 0x00 ∷ 0x00 ∷ 0x70 ∷ []) 15 1 noFields
+    ∷ reads (0x40 ∷ 0x00 ∷ 0x01 ∷ 0x00 ∷ 0x00 ∷ 0x00 ∷ 0x70 ∷ 0x01 ∷ 0x00 ∷ []) 15 1 noFields
+    -- of several that are bad the first is named: of each with the next in order, of the first and the last, and of all that a writer gives
+    ∷ reads (replicate 7 0) 15 1 noFields
+    ∷ reads (0x00 ∷ 0x00 ∷ 0x00 ∷ 0x00 ∷ 0x00 ∷ 0x00 ∷ 0x70 ∷ 0x01 ∷ []) 15 2 noFields
+    ∷ reads (0x40 ∷ 0x00 ∷ 0x00 ∷ 0x00 ∷ 0x00 ∷ 0x00 ∷ 0x70 ∷ 0x03 ∷ []) 15 3 noFields
+    ∷ reads (0x40 ∷ 0x00 ∷ 0x01 ∷ 0x00 ∷ 0x00 ∷ 0x00 ∷ 0x8F ∷ 0x03 ∷ []) 15 4 noFields
+    ∷ reads (0x40 ∷ 0x00 ∷ 0x01 ∷ 0x00 ∷ 0x00 ∷ 0x00 ∷ 0x87 ∷ 0x01 ∷ []) 15 5 noFields
+    ∷ writes (indices true 8 true 8) 15 5 (replicate 8 0)
+    ∷ reads (0x40 ∷ 0x00 ∷ 0x01 ∷ 0x00 ∷ 0x00 ∷ 0x00 ∷ 0x71 ∷ 0x01 ∷ 0x00 ∷ []) 15 1 noFields
+    ∷ writes allBad 15 2 (replicate 8 0)
+    ∷ []
+
 abbrev pub Worked : Type 0
-Worked = AllHold (cases ++ (further ++ (soundness ++ (rowsUnsound ++ (links ++ reservedBits)))))
+Worked = AllHold (cases ++ (further ++ (soundness ++ (rowsUnsound ++ (links ++ (reservedBits ++ statusData))))))
