@@ -53,6 +53,7 @@ block f =
     ∷ low (mngStatus f) ∷ high (mngStatus f)
     ∷ []
 
+-- how many bytes these are (manual 6.1)
 abbrev pub blockSize : ℕ
 blockSize = 8
 
@@ -87,6 +88,7 @@ fieldsOf lengthWord vlan mng =
 abbrev pub mngReserved : ℕ → ℕ
 mngReserved mng = mng / 2 ^ mngReservedAt
 
+-- all fields zero (manual 6.6)
 abbrev pub noFields : Fields
 noFields = record { length = 0; vlan = 0; «decision_match» = false; «decision_index» = 0; «vlan_match» = false; «vlan_index» = 0 }
 

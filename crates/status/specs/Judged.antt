@@ -43,7 +43,7 @@ maxVlanIndex = 7
 
 -- a length word is bad if it is 0 or above the largest length, as it is with either reserved bit (manual 6.2)
 unfoldable pub badLength : ℕ → Bool
-badLength length = ltb length 1 or ltb maxLength length
+badLength word = ltb word 1 or ltb maxLength word
 
 -- an index is bad above its largest where it is matched, and above 0 where it is not (manual 6.5)
 unfoldable pub badIndex : Bool → ℕ → ℕ → Bool

@@ -35,7 +35,7 @@ const MAX_DECISION_INDEX: u8 = 7;
 
 const MAX_VLAN_INDEX: u8 = 7;
 
-// Judges fields, a packet status and the reserved bits of a MNG status.
+// Names the first that is bad of fields, a packet status and the reserved bits of a MNG status.
 pub(crate) fn judge(fields: Fields, status: u16, reserved: u16) -> Answer
     ensures { λ r. ⌜ r ≡ judged fields status reserved ⌝ }
 {
