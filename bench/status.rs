@@ -6,7 +6,6 @@ use std::process::ExitCode;
 use std::time::Instant;
 
 use reference::status::{answered, read, write, StatusData};
-use second::interface::Status;
 
 #[allow(dead_code)]
 #[path = "../tests/callers/rust/archive.rs"]
@@ -40,13 +39,13 @@ struct Row {
 const ROWS: [Row; 4] = [
     Row {
         name: "written",
-        proved: || archive::write_status(lent(GOOD)).field,
+        proved: || archive::write_status(GOOD.into()).field,
         second: || answered(write(&GOOD)).1.into(),
         field: 0,
     },
     Row {
         name: "written, VLAN index bad",
-        proved: || archive::write_status(lent(BAD)).field,
+        proved: || archive::write_status(BAD.into()).field,
         second: || answered(write(&BAD)).1.into(),
         field: 6,
     },
@@ -63,18 +62,6 @@ const ROWS: [Row; 4] = [
         field: 6,
     },
 ];
-
-/// The same fields as the C interface has them.
-const fn lent(fields: StatusData) -> Status {
-    Status {
-        length: fields.length,
-        vlan: fields.vlan,
-        decision_match: fields.decision_match,
-        decision_index: fields.decision_index,
-        vlan_match: fields.vlan_match,
-        vlan_index: fields.vlan_index,
-    }
-}
 
 fn main() -> ExitCode {
     let rounds = match env::args().nth(1).map(|rounds| rounds.parse()) {

@@ -51,7 +51,7 @@
 //         LENGTH/2 BUFFER
 //
 // The media is 00 for copper and 01 for fibre, and the source 00 for nowhere, 01 for the settings
-// and 02 for Flash.
+// and 02 for Flash. The field is the number of the first bad one, 00 for none.
 //
 // A digest starts at 1, and a byte b turns it from h to (h * 257 + b) mod 4294967291. That of
 // `links` is of the bytes of the answers to `link` for COUNT words from FROM on, of which the last

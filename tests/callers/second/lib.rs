@@ -61,6 +61,21 @@ impl From<&State> for state::State {
     }
 }
 
+impl From<StatusData> for Status {
+    fn from(own: StatusData) -> Status {
+        let StatusData { length, vlan, decision_match, decision_index, vlan_match, vlan_index } =
+            own;
+        Status { length, vlan, decision_match, decision_index, vlan_match, vlan_index }
+    }
+}
+
+impl From<Status> for StatusData {
+    fn from(lent: Status) -> StatusData {
+        let Status { length, vlan, decision_match, decision_index, vlan_match, vlan_index } = lent;
+        StatusData { length, vlan, decision_match, decision_index, vlan_match, vlan_index }
+    }
+}
+
 /// `tco_fresh_state`
 pub fn fresh_state(maximum: u32) -> Made {
     let (answer, state) = state::fresh(maximum);
@@ -104,32 +119,14 @@ pub fn ipv4_in_force(settings: &[u8], flash: &[u8]) -> Part {
 
 /// `tco_write_status`
 pub fn write_status(fields: Status) -> StatusWritten {
-    let (answer, field, block) = status::answered(status::write(&StatusData {
-        length: fields.length,
-        vlan: fields.vlan,
-        decision_match: fields.decision_match,
-        decision_index: fields.decision_index,
-        vlan_match: fields.vlan_match,
-        vlan_index: fields.vlan_index,
-    }));
+    let (answer, field, block) = status::answered(status::write(&fields.into()));
     StatusWritten { answer: answer.into(), field: field.into(), block }
 }
 
 /// `tco_read_status`
 pub fn read_status(block: &[u8]) -> StatusRead {
     let (answer, field, fields) = status::answered(status::read(block));
-    StatusRead {
-        answer: answer.into(),
-        field: field.into(),
-        fields: Status {
-            length: fields.length,
-            vlan: fields.vlan,
-            decision_match: fields.decision_match,
-            decision_index: fields.decision_index,
-            vlan_match: fields.vlan_match,
-            vlan_index: fields.vlan_index,
-        },
-    }
+    StatusRead { answer: answer.into(), field: field.into(), fields: fields.into() }
 }
 
 /// `tco_set_link`
