@@ -4,7 +4,7 @@
 # make uninstall
 PREFIX = /usr/local
 DESTDIR =
-VERSION = 0.1.0
+VERSION = 0.2.0
 
 library = target/staticlib/libtco.a
 program = target/bin/account

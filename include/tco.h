@@ -52,7 +52,7 @@ enum {
     TCO_NO_ROOM = 12,       /* store or settings too short; nothing changed */
     TCO_NOT_SOUND = 13,     /* state or settings not sound; nothing changed */
     TCO_FULL = 14,          /* account full: its total is TCO_LIMIT; nothing changed */
-    TCO_BAD_STATUS = 15,    /* status field or block not allowed; a TCO_FIELD says what is bad */
+    TCO_BAD_STATUS = 15,    /* status field or block not allowed; `field` has the first bad one */
     TCO_BAD_MAXIMUM = 16    /* fragment maximum not 1 to TCO_MAXIMUM */
 };
 

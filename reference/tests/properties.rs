@@ -139,7 +139,7 @@ fn first_bad(fields: &[(Field, bool)]) -> Option<Field> {
     bad.map(|(field, _)| *field).min_by_key(|field| *field as u8)
 }
 
-/// The fields of a MNG status, by arithmetic: of 16 values that match and index
+/// The fields of an MNG status, by arithmetic: of 16 values that match and index
 /// of the VLAN filter take together, and of 32 that those of the decision filter
 /// take, the allowed ones are zero and the eight from the match on.
 fn bad_in_mng_status(word: u16) -> [(Field, bool); 3] {

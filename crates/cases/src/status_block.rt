@@ -51,5 +51,5 @@ fn answer_read(bytes: &Buffer, ends: &[usize], text: &mut Buffer) -> usize {
 // Puts the answer number and that of the bad field, and answers where they end.
 fn put_answer(text: &mut Buffer, answer: Answer) -> usize {
     let end = put_u8(text, 0, (status::number(answer) % 256) as u8);
-    put_u8(text, end, (status::bad_field(answer) % 256) as u8)
+    put_u8(text, end, (status::bad_field_number(answer) % 256) as u8)
 }

@@ -17,13 +17,13 @@ use Rattle.status.specs.declared.judge.Answer.{Answer}
 use Rattle.status.specs.declared.judge.Answer.the-variants.{Done, NotAllowed}
 use Rattle.status.specs.declared.judge.Field.{Field}
 use Rattle.status.specs.declared.judge.Field.the-variants.{BlockSize, Length, PacketStatus, MngReserved, DecisionIndex, VlanIndex}
-use Rattle.status.specs.Judged.{fieldNumber, numberOf, badField, maxLength, packetStatus, maxDecisionIndex, maxVlanIndex, badLength, badIndex, judged}
+use Rattle.status.specs.Judged.{fieldNumber, numberOf, badFieldNumber, maxLength, packetStatus, maxDecisionIndex, maxVlanIndex, badLength, badIndex, judged}
 use Rattle.status.specs.Block.{wordAt, fieldsOf, mngReserved, parsedWords, parsed, written}
-use Rattle.status.specs.Properties.{AreBytes, fieldsIn, GoodIndex, GoodToWrite, GoodToRead, fieldAt, TellsFirstBad, FirstBadTold}
+use Rattle.status.specs.Properties.{AreBytes, fieldsIn, GoodIndex, GoodToWrite, GoodToRead, inOrder, fieldAt, TellsFirstBad, FirstBadTold}
 
 -- the statement, of an answer
 abbrev Tells : (Field → Type 0) → Answer → Type 0
-Tells Good answer = TellsFirstBad Good (numberOf answer) (badField answer)
+Tells Good answer = TellsFirstBad Good (numberOf answer) (badFieldNumber answer)
 
 -- a test that says whether something is bad
 record Tests (bad : Bool) (Good : Type 0) : Type 0 where
@@ -34,13 +34,13 @@ module _ (Good : Field → Type 0) where
   abbrev UpTo : ℕ → Type 0
   UpTo place = (earlier : ℕ) → earlier < place → Good (fieldAt earlier)
 
-  first-bad : (field : Field) (place : ℕ) → fieldNumber field ≡ suc place → place < 6 → (Good (fieldAt place) → ⊥) → UpTo place → Tells Good (NotAllowed field)
+  first-bad : (field : Field) (place : ℕ) → fieldNumber field ≡ suc place → place < length inOrder → (Good (fieldAt place) → ⊥) → UpTo place → Tells Good (NotAllowed field)
   first-bad field place number within bad before =
       let fifteen : numberOf (NotAllowed field) ≡ 15 = omega arith in
       subst (TellsFirstBad Good (numberOf (NotAllowed field))) (sym number) (fifteen, within, bad, before)
 
   -- a test in its place, before others
-  at-place : (field : Field) (place : ℕ) (bad : Bool) (rest : Answer) → fieldNumber field ≡ suc place → place < 6 → Tests bad (Good (fieldAt place)) → UpTo place
+  at-place : (field : Field) (place : ℕ) (bad : Bool) (rest : Answer) → fieldNumber field ≡ suc place → place < length inOrder → Tests bad (Good (fieldAt place)) → UpTo place
       → (UpTo (place + 1) → Tells Good rest)
       → Tells Good (if bad then NotAllowed field else rest)
   at-place field place bad rest number within tests before after =
@@ -74,9 +74,9 @@ length-tested length =
 
 index-tested : (matched : Bool) (index max : ℕ) → max ≡ 7 → Tests (badIndex matched index max) (GoodIndex matched index)
 unfolding badIndex if_then_else_
-index-tested true index max eight =
+index-tested true index max seven =
     record { refuses = λ e good. omega (arith, ltb-true max index e, good .0); passes = λ e. (omega (arith, ltb-false max index e), λ n. absurd (true≢false n)) }
-index-tested false index max eight =
+index-tested false index max seven =
     record { refuses = λ e good. omega (arith, ltb-true 0 index e, good .1 refl); passes = λ e. (omega (arith, ltb-false 0 index e), λ _. omega (arith, ltb-false 0 index e)) }
 
 packet-status-tested : (low high : ℕ) → low < 256 → Tests (not (eqb (low + 256 * high) packetStatus)) ((low ≡ 0x01) × (high ≡ 0x00))
@@ -140,7 +140,7 @@ pub first-bad-told : FirstBadTold
 first-bad-told = record { writing = writing; reading = reading }
 
 -- every field has its place
-pub every-field : (Good : Field → Type 0) → ((place : ℕ) → place < 6 → Good (fieldAt place)) → (field : Field) → Good field
+every-field : (Good : Field → Type 0) → ((place : ℕ) → place < length inOrder → Good (fieldAt place)) → (field : Field) → Good field
 every-field Good good BlockSize = good 0 (omega arith)
 every-field Good good Length = good 1 (omega arith)
 every-field Good good PacketStatus = good 2 (omega arith)

@@ -1,6 +1,6 @@
 -- What is written is read back, what is read was written, and what comes back with each answer.
 -- Assumes nothing.
-use Prim.Native.Nat.{ℕ, zero, suc, _+_, _*_, _/_, _%_, _^_, _<_, _≤_}
+use Prim.Native.Nat.{ℕ, zero, suc, _+_, _*_, _/_, _%_, _<_, _≤_}
 use mathlib.Core.Bool.{Bool, true, false}
 use mathlib.Core.List.{List, [], _∷_}
 use mathlib.Core.Path.{_≡_, refl, sym, ap, _∙_, subst}
@@ -67,7 +67,7 @@ unfolding if_then_else_
 match-bit true = record { bit = 1; small = omega arith; weighed = λ w. omega arith; told = refl }
 match-bit false = record { bit = 0; small = omega arith; weighed = λ w. omega arith; told = refl }
 
--- a MNG status in bytes: put together, and taken apart
+-- an MNG status in bytes: put together, and taken apart
 record Unpacked (x di y vi low high : ℕ) : Type 0 where
   decision-match : high ≡ x
   decision-index : low / 16 ≡ di

@@ -9,8 +9,8 @@ use Rattle.status.proofs.read.Kinds as read-kinds
 use Rattle.status.proofs.read.Reads as read-reads
 use Rattle.status.proofs.judge.number.Kinds as number-kinds
 use Rattle.status.proofs.judge.number.Reads as number-reads
-use Rattle.status.proofs.judge.bad_field.Kinds as bad-field-kinds
-use Rattle.status.proofs.judge.bad_field.Reads as bad-field-reads
+use Rattle.status.proofs.judge.bad_field_number.Kinds as bad-field-number-kinds
+use Rattle.status.proofs.judge.bad_field_number.Reads as bad-field-number-reads
 
 pub write-unique : OneResult 0 write-kinds.ps write-kinds.r write-reads.Learnt
 write-unique κs a r₁ r₂ w₁ w₂ p q = (one-result p q, refl)
@@ -21,5 +21,5 @@ read-unique κs a r₁ r₂ w₁ w₂ p q = (one-result p q, refl)
 pub number-unique : OneResult 0 number-kinds.ps number-kinds.r number-reads.Learnt
 number-unique κs a r₁ r₂ w₁ w₂ p q = (one-result p q, refl)
 
-pub bad-field-unique : OneResult 0 bad-field-kinds.ps bad-field-kinds.r bad-field-reads.Learnt
-bad-field-unique κs a r₁ r₂ w₁ w₂ p q = (one-result p q, refl)
+pub bad-field-number-unique : OneResult 0 bad-field-number-kinds.ps bad-field-number-kinds.r bad-field-number-reads.Learnt
+bad-field-number-unique κs a r₁ r₂ w₁ w₂ p q = (one-result p q, refl)

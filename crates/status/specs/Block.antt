@@ -62,7 +62,7 @@ unfoldable pub ifDone : {A : Type 0} → Answer → A → (zeros : A) → A
 ifDone Done a zeros = a
 ifDone (NotAllowed field) a zeros = zeros
 
--- a writer is given no packet status and no reserved bits of a MNG status, so that neither can be bad (manual 6.3, 6.6)
+-- a writer is given no packet status and no reserved bits of an MNG status, so that neither can be bad (manual 6.3, 6.6)
 unfoldable pub written : Fields → Written
 written f =
     let answer : Answer = judged f packetStatus 0 in
@@ -84,7 +84,7 @@ fieldsOf lengthWord vlan mng =
       «vlan_index» = mng % 2 ^ vlanMatchAt;
     }
 
--- the reserved bits of a MNG status, all that lie above the decision match (manual 6.1)
+-- the reserved bits of an MNG status, all that lie above the decision match (manual 6.1)
 abbrev pub mngReserved : ℕ → ℕ
 mngReserved mng = mng / 2 ^ mngReservedAt
 

@@ -1,4 +1,4 @@
--- Which field of status data is bad first, alike for fields to write and for a block to read; its size the reader judges before (manual 6.2 to 6.6).
+-- Which field of status data is bad first, alike for fields to write and for a block to read; the size of a block is judged before, by the reader alone (manual 6.2 to 6.6).
 use Prim.Native.Nat.{ℕ}
 use mathlib.Core.Bool.{Bool, not}
 use lib.Dec.{eqb, ltb}
@@ -24,9 +24,9 @@ numberOf Done = 0
 numberOf (NotAllowed field) = 15
 
 -- the number of the bad field that comes with the answer, 0 where none is bad (manual 6.6)
-abbrev pub badField : Answer → ℕ
-badField Done = 0
-badField (NotAllowed field) = fieldNumber field
+abbrev pub badFieldNumber : Answer → ℕ
+badFieldNumber Done = 0
+badFieldNumber (NotAllowed field) = fieldNumber field
 
 -- the largest length, the one packet status, and the largest indices (manual 6.2, 6.3, 6.5)
 abbrev pub maxLength : ℕ
@@ -49,7 +49,7 @@ badLength word = ltb word 1 or ltb maxLength word
 unfoldable pub badIndex : Bool → ℕ → ℕ → Bool
 badIndex matched index max = ltb (if matched then max else 0) index
 
--- the first bad one of fields, a packet status and the reserved bits of a MNG status; any VLAN tag is good (manual 6.4, 6.6)
+-- the first bad one of fields, a packet status and the reserved bits of an MNG status; any VLAN tag is good (manual 6.4, 6.6)
 unfoldable pub judged : Fields → (status reserved : ℕ) → Answer
 judged f status reserved =
     if badLength (f .length) then NotAllowed Length else

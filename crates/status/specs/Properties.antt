@@ -7,11 +7,10 @@ use mathlib.Core.Path.{_≡_}
 use lib.Dec.{eqb}
 use lib.ListN.{length, getD, replicate}
 use Rattle.status.specs.declared.Fields.{Fields}
-use Rattle.status.specs.declared.judge.Answer.{Answer}
 use Rattle.status.specs.declared.judge.Answer.the-variants.{Done, NotAllowed}
 use Rattle.status.specs.declared.judge.Field.{Field}
 use Rattle.status.specs.declared.judge.Field.the-variants.{BlockSize, Length, PacketStatus, MngReserved, DecisionIndex, VlanIndex}
-use Rattle.status.specs.Judged.{numberOf, badField}
+use Rattle.status.specs.Judged.{numberOf, badFieldNumber}
 use Rattle.status.specs.Block.{written, parsed}
 
 -- a VLAN tag is any two bytes (manual 6.4)
@@ -52,7 +51,7 @@ pub record ComesBack : Type 0 where
 abbrev pub GoodIndex : Bool → ℕ → Type 0
 GoodIndex matched index = (index < 8) × (matched ≡ false → index ≡ 0)
 
--- when each field is good to write; a writer is given no block, packet status or reserved bits of a MNG status that could be bad (manual 6.2, 6.3, 6.5)
+-- when each field is good to write; a writer is given no block, packet status or reserved bits of an MNG status that could be bad (manual 6.2, 6.3, 6.5)
 abbrev pub GoodToWrite : Fields → Field → Type 0
 GoodToWrite f BlockSize = Unit
 GoodToWrite f Length = (1 ≤ f .length) × (f .length ≤ 1536)
@@ -70,16 +69,20 @@ GoodToRead b MngReserved = getD b 7 0 ≤ 1
 GoodToRead b DecisionIndex = GoodToWrite (fieldsIn b) DecisionIndex
 GoodToRead b VlanIndex = GoodToWrite (fieldsIn b) VlanIndex
 
--- the order in which they are judged; places are counted from 0 (manual 6.6)
+-- the order in which they are judged (manual 6.6)
+abbrev pub inOrder : List Field
+inOrder = BlockSize ∷ Length ∷ PacketStatus ∷ MngReserved ∷ DecisionIndex ∷ VlanIndex ∷ []
+
+-- the field at a place of it, counted from 0
 abbrev pub fieldAt : ℕ → Field
-fieldAt place = getD (BlockSize ∷ Length ∷ PacketStatus ∷ MngReserved ∷ DecisionIndex ∷ VlanIndex ∷ []) place BlockSize
+fieldAt place = getD inOrder place BlockSize
 
 -- the numbers told: 0 and 0 where every field is good; else 15 and the number, from 1 on, of a field that is not good and before which all are (manual 2.1, 6.6)
 abbrev pub TellsFirstBad : (Field → Type 0) → (answer field : ℕ) → Type 0
-TellsFirstBad Good answer zero = (answer ≡ 0) × ((place : ℕ) → place < 6 → Good (fieldAt place))
-TellsFirstBad Good answer (suc place) = (answer ≡ 15) × (place < 6) × (Good (fieldAt place) → ⊥) × ((earlier : ℕ) → earlier < place → Good (fieldAt earlier))
+TellsFirstBad Good answer zero = (answer ≡ 0) × ((place : ℕ) → place < length inOrder → Good (fieldAt place))
+TellsFirstBad Good answer (suc place) = (answer ≡ 15) × (place < length inOrder) × (Good (fieldAt place) → ⊥) × ((earlier : ℕ) → earlier < place → Good (fieldAt earlier))
 
 -- whatever is written or read (manual 6.6)
 pub record FirstBadTold : Type 0 where
-  pub writing : (f : Fields) → TellsFirstBad (GoodToWrite f) (numberOf (written f .answer)) (badField (written f .answer))
-  pub reading : (b : List ℕ) → AreBytes b → TellsFirstBad (GoodToRead b) (numberOf (parsed b .answer)) (badField (parsed b .answer))
+  pub writing : (f : Fields) → TellsFirstBad (GoodToWrite f) (numberOf (written f .answer)) (badFieldNumber (written f .answer))
+  pub reading : (b : List ℕ) → AreBytes b → TellsFirstBad (GoodToRead b) (numberOf (parsed b .answer)) (badFieldNumber (parsed b .answer))

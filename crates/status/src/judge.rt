@@ -1,7 +1,7 @@
 // Which field of status data is bad first, for the fields to write and for a block to read.
 use crate::Fields;
 ghost use mathlib.Core.Path.{_≡_};
-ghost use Rattle.status.specs.Judged.{fieldNumber, numberOf, badField, badLength, badIndex, judged};
+ghost use Rattle.status.specs.Judged.{fieldNumber, numberOf, badFieldNumber, badLength, badIndex, judged};
 
 // What a writer or a reader is answered.
 pub enum Answer {
@@ -11,9 +11,9 @@ pub enum Answer {
     NotAllowed(Field),
 }
 
-// A field that can be bad, in the order in which they are judged.
+// The fields that can be bad, in the order in which they are judged.
 pub enum Field {
-    // 1: other than eight bytes to read.
+    // 1: the size of a block to read.
     BlockSize,
     // 2: the length, with its reserved bits.
     Length,
@@ -35,7 +35,7 @@ const MAX_DECISION_INDEX: u8 = 7;
 
 const MAX_VLAN_INDEX: u8 = 7;
 
-// Names the first that is bad of fields, a packet status and the reserved bits of a MNG status.
+// Names the first that is bad of fields, a packet status and the reserved bits of an MNG status.
 pub(crate) fn judge(fields: Fields, status: u16, reserved: u16) -> Answer
     ensures { λ r. ⌜ r ≡ judged fields status reserved ⌝ }
 {
@@ -61,7 +61,7 @@ pub(crate) fn judge(fields: Fields, status: u16, reserved: u16) -> Answer
     Answer::Done
 }
 
-// Whether a length word is no length. With a reserved bit, 15 or 14, it is above the largest.
+// Whether a length word is bad. With a reserved bit, 15 or 14, it is above the largest.
 fn is_length_bad(length: u16) -> bool
     ensures { λ r. ⌜ r ≡ badLength length ⌝ }
 {
@@ -92,8 +92,8 @@ pub fn number(answer: Answer) -> u32
 }
 
 // The number of the field that is bad, 0 where none is.
-pub fn bad_field(answer: Answer) -> u32
-    ensures { λ r. ⌜ r ≡ badField answer ⌝ }
+pub fn bad_field_number(answer: Answer) -> u32
+    ensures { λ r. ⌜ r ≡ badFieldNumber answer ⌝ }
 {
     match answer {
         Answer::Done => 0,

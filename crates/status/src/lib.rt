@@ -5,7 +5,7 @@ mod judge;
 pub use judge::Answer;
 pub use judge::Field;
 use judge::PACKET_STATUS;
-pub use judge::bad_field;
+pub use judge::bad_field_number;
 use judge::judge;
 pub use judge::number;
 ghost use mathlib.Core.Path.{_≡_};

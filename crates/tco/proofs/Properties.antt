@@ -1,4 +1,4 @@
--- A part in numbers is the part that the other crates show.
+-- A part in numbers is the part that the other crates show, and of status data the first bad field is told.
 -- Assumes nothing.
 use Prim.Native.Nat.{ℕ, _≤_}
 use mathlib.Core.List.{List}
@@ -18,8 +18,9 @@ use Rattle.address.specs.declared.Source.the-variants.{Nowhere, Settings, Flash
 use Rattle.address.specs.Address.{sourceOf, shownFrom, inForce}
 use Rattle.packet.specs.Store.{maxPacket, shown}
 use Rattle.settings.specs.Layout.{macAt, ipv4At, macSize, ipv4Size}
+use Rattle.status.proofs.FirstBad.{first-bad-told}
 use Rattle.tco.specs.Part.{shownLength, partFrom}
-use Rattle.tco.specs.Properties.{partAt, EveryPart}
+use Rattle.tco.specs.Properties.{partAt, EveryPart, EveryStatus}
 
 packet : (store : RefT (List ℕ)) (n : ℕ) → partOf 0 (shownLength store n) store ≡ shown store n
 unfolding shown
@@ -52,3 +53,6 @@ every-part = record {
   mac = λ settings flash. mac settings flash (sourceOf Mac (now settings) (now flash));
   ipv4 = λ settings flash. ipv4 settings flash (sourceOf Ipv4 (now settings) (now flash));
 }
+
+pub every-status : EveryStatus
+every-status = record { writing = first-bad-told .writing; reading = first-bad-told .reading }

@@ -207,7 +207,7 @@ pub extern "C" fn tco_write_status(fields: Fields) -> StatusWritten
     let block = written.block;
     StatusWritten {
         answer: status::number(answer),
-        field: status::bad_field(answer),
+        field: status::bad_field_number(answer),
         block,
     }
 }
@@ -222,7 +222,7 @@ pub extern "C" fn tco_read_status(block: &[u8]) -> StatusRead
     let fields = parsed.fields;
     StatusRead {
         answer: status::number(answer),
-        field: status::bad_field(answer),
+        field: status::bad_field_number(answer),
         fields,
     }
 }

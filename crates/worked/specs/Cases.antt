@@ -11,7 +11,7 @@ use Rattle.setlink.specs.declared.Decision.{Decision}
 use Rattle.setlink.specs.declared.Media.{Media}
 use Rattle.setlink.specs.Decide.{decided, freshWord}
 use Rattle.status.specs.declared.Fields.{Fields}
-use Rattle.status.specs.Judged.{numberOf as Status·numberOf, badField}
+use Rattle.status.specs.Judged.{numberOf as Status·numberOf, badFieldNumber}
 use Rattle.status.specs.Block.{written, parsed}
 use Rattle.settings.specs.Enable.{freshened}
 use Rattle.address.specs.declared.Address.the-variants.{Mac, Ipv4}
@@ -162,9 +162,9 @@ Holds (addresses settings flash mac ipv4) =
     × (inForce Ipv4 (record { ptr = (0, 0); name = 0; now = settings }) (record { ptr = (1, 0); name = 1; now = flash }) .bytes ≡ ipv4)
 Holds (link word hostPresent media expected) = decided freshWord word hostPresent media ≡ expected
 Holds (writes fields answer field block) =
-    _≡_ {A = ℕ × ℕ × List ℕ} (Status·numberOf (written fields .answer), badField (written fields .answer), written fields .block) (answer, field, block)
+    _≡_ {A = ℕ × ℕ × List ℕ} (Status·numberOf (written fields .answer), badFieldNumber (written fields .answer), written fields .block) (answer, field, block)
 Holds (reads block answer field fields) =
-    _≡_ {A = ℕ × ℕ × Fields} (Status·numberOf (parsed block .answer), badField (parsed block .answer), parsed block .fields) (answer, field, fields)
+    _≡_ {A = ℕ × ℕ × Fields} (Status·numberOf (parsed block .answer), badFieldNumber (parsed block .answer), parsed block .fields) (answer, field, fields)
 Holds (journal transactions bytes) =
     (recordsOf transactions ≡ bytes) × (recordsIn bytes ≡ record { transactions = transactions; used = length bytes; badLink = false })
 

@@ -253,7 +253,7 @@ reservedBits =
     map (λ (bit : ℕ). link (0x204 + 2 ^ bit) false Copper (refused 0x0002))
     (5 ∷ 6 ∷ 7 ∷ 12 ∷ 13 ∷ 14 ∷ 15 ∷ 16 ∷ 17 ∷ 18 ∷ 19 ∷ 20 ∷ 21 ∷ 22 ∷ 23 ∷ 24 ∷ 25 ∷ 26 ∷ 27 ∷ 28 ∷ 29 ∷ 30 ∷ 31 ∷ [])
 
--- status data: each field at its edges, and which of two is named (manual 6.2 to 6.6)
+-- status data: each field at its edges, and which of several bad ones is named (manual 6.2 to 6.6)
 abbrev pub statusData : List Case
 statusData =
     -- the largest length with a VLAN tag whose two bytes differ, written and read, and one more
@@ -267,9 +267,9 @@ statusData =
     ∷ writes (vlan5 0) 15 2 (replicate 8 0)
     ∷ reads (0x00 ∷ 0x00 ∷ 0x01 ∷ 0x00 ∷ 0x23 ∷ 0x01 ∷ 0x0D ∷ 0x00 ∷ []) 15 2 noFields
     -- each reserved bit of the length, which is not cut
-    ∷ writes (vlan5 16448) 15 2 (replicate 8 0)
+    ∷ writes (vlan5 0x4040) 15 2 (replicate 8 0)
     ∷ reads (0x40 ∷ 0x40 ∷ 0x01 ∷ 0x00 ∷ 0x23 ∷ 0x01 ∷ 0x0D ∷ 0x00 ∷ []) 15 2 noFields
-    ∷ writes (vlan5 32832) 15 2 (replicate 8 0)
+    ∷ writes (vlan5 0x8040) 15 2 (replicate 8 0)
     ∷ reads (0x40 ∷ 0x80 ∷ 0x01 ∷ 0x00 ∷ 0x23 ∷ 0x01 ∷ 0x0D ∷ 0x00 ∷ []) 15 2 noFields
     -- other packet statuses: CRC not stripped, VLAN stripped, the highest reserved bit
     ∷ reads (0x40 ∷ 0x00 ∷ 0x00 ∷ 0x00 ∷ 0x23 ∷ 0x01 ∷ 0x0D ∷ 0x00 ∷ []) 15 3 noFields
@@ -278,7 +278,7 @@ statusData =
     -- the lowest and the highest reserved bit of the MNG status
     ∷ reads (0x40 ∷ 0x00 ∷ 0x01 ∷ 0x00 ∷ 0x23 ∷ 0x01 ∷ 0x0D ∷ 0x02 ∷ []) 15 4 noFields
     ∷ reads (0x40 ∷ 0x00 ∷ 0x01 ∷ 0x00 ∷ 0x23 ∷ 0x01 ∷ 0x0D ∷ 0x80 ∷ []) 15 4 noFields
-    -- the largest indices, written and read; each of them one more, and each without its match
+    -- the largest indices, written and read; each of them one more, the decision index at the most that its bits and its byte hold, and each without its match
     ∷ writes (indices true 7 true 7) 0 0 (0x40 ∷ 0x00 ∷ 0x01 ∷ 0x00 ∷ 0x00 ∷ 0x00 ∷ 0x7F ∷ 0x01 ∷ [])
     ∷ reads (0x40 ∷ 0x00 ∷ 0x01 ∷ 0x00 ∷ 0x00 ∷ 0x00 ∷ 0x7F ∷ 0x01 ∷ []) 0 0 (indices true 7 true 7)
     ∷ writes (indices true 8 true 7) 15 5 (replicate 8 0)

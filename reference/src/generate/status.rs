@@ -125,8 +125,8 @@ const BAD_FIELDS: [Bad<StatusData>; 3] = [
     ("VLAN index", |fields| fields.vlan_index = 8),
 ];
 
-/// What is judged of a block whose VLAN index is matched and not zero, in the
-/// same order.
+/// The fields of a block whose VLAN index is matched and not zero, in the same
+/// order.
 const BAD_IN_BLOCK: [Bad<Vec<u8>>; 6] = [
     ("size of block", |block| block.push(0)),
     ("length", |block| block[1] |= 0x80),
