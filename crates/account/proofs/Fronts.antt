@@ -7,15 +7,15 @@ use mathlib.Core.Path.{◌≡◌, refl}
 use denote.Ref.{Bor}
 use lib.Dec.{ltb}
 use lib.ListN.{length, take}
-use Rattle.prelude.specs.Choice.{if◌then◌else◌}
-use Rattle.prelude.specs.Parts.{Slice, part_of}
+use Rattle.prelude.specs.Choice.{when◌then◌else◌}
+use Rattle.prelude.specs.Parts.{part_of}
 use Rattle.account.specs.Buffer.{front_of}
 use Rattle.account.specs.Piece.{first_of}
 
 pub front_bytes : (buffer : Bor (List ℕ)) (size : ℕ) → (front_of buffer size).bytes ≡ first_of size buffer.now
-unfolding front_of if◌then◌else◌
+unfolding front_of when◌then◌else◌
 front_bytes buffer size = by-test (ltb (length buffer.now) size)
   where
-    by-test : (t : Bool) → (if t then part_of 0 0 buffer else part_of 0 size buffer).bytes ≡ (if t then [] else take size buffer.now)
+    by-test : (t : Bool) → (when t then part_of 0 0 buffer else part_of 0 size buffer).bytes ≡ (when t then [] else take size buffer.now)
     by-test true = refl
     by-test false = refl

@@ -8,7 +8,7 @@ use native.Mathlib.Omega.{arith}
 use lib.ListN.{length, take, drop, length-drop}
 use lib.Seq.{take-add, take_at, drop_at, length-take-le}
 use borrow.Author.Tests.{le-ltb}
-use Rattle.prelude.specs.Choice.{if◌then◌else◌}
+use Rattle.prelude.specs.Choice.{when◌then◌else◌}
 use Rattle.prelude.specs.Parts.{part, put}
 use Rattle.prelude.proofs.Lists.{length_part, length-put}
 use Rattle.prelude.proofs.Tests.{if-true, if-false}
@@ -98,7 +98,7 @@ module _ (bytes piece : List ℕ) (before after : InBuffer) (st : Stands bytes b
       omega arith
 
   used-inside : used ≤ r.end
-  unfolding if◌then◌else◌
+  unfolding when◌then◌else◌
   used-inside = by-test (is_bad f.reading)
     where
       by-test : (b : Bool) → used_of b f.used r.end ≤ r.end

@@ -1,7 +1,7 @@
 -- How reading goes on (manual 9.5).
 use Rattle.std.specs.Prelude.{ℕ, Bool, false, List, [], ltb, ℤ, pos, length, take}
 use Rattle.std.specs.Int.Signed.{lt_z}
-use Rattle.prelude.specs.Choice.{if◌then◌else◌}
+use Rattle.prelude.specs.Choice.{when◌then◌else◌}
 use Rattle.journal.specs.declared.reading.Fed.{Fed}
 use Rattle.journal.specs.declared.reading.Reading.{Reading}
 use Rattle.journal.specs.Feeding.{fed, is_bad}
@@ -13,8 +13,8 @@ use Rattle.account.specs.Buffer.{Moved, moved_to_front}
 -- below zero a read failed, and at zero nothing comes any more (manual 9.5)
 unfoldable pub answer_of : ℤ → Answer
 answer_of got =
-    if lt_z got (pos 0) then answer.Failed else
-    if lt_z (pos 0) got then answer.Read else
+    when lt_z got (pos 0) then answer.Failed else
+    when lt_z (pos 0) got then answer.Read else
     answer.Ended
 
 -- a reading, how many bytes it has not used, and whether no more is read (manual 9.5)
@@ -32,11 +32,11 @@ in_buffer next buffer = record { next = next; buffer = buffer }
 
 -- of a bad journal everything is used, so that it is read to its end (manual 9.5)
 abbrev pub used_of : Bool → ℕ → ℕ → ℕ
-used_of is_bad used end = if is_bad then end else used
+used_of is_bad used end = when is_bad then end else used
 
 -- the first bytes of a buffer, or none where there are fewer (manual 9.5)
 abbrev pub first_of : ℕ → List ℕ → List ℕ
-first_of size buffer = if ltb (length buffer) size then [] else take size buffer
+first_of size buffer = when ltb (length buffer) size then [] else take size buffer
 
 -- a reading behind a piece, and a buffer in which bytes were moved (manual 9.5)
 abbrev pub after_piece : Fed → Moved → InBuffer

@@ -1,4 +1,6 @@
 // The bytes of a journal that were read and not used yet, at the start of a buffer.
+#![tactic(auto, using(prelude::proofs::Tests::tests), unfolding(crate::specs::Buffer::front_of, crate::specs::Buffer::moved_to_front))]
+
 ghost use Rattle.std.specs.Prelude.{◌≡◌};
 ghost use Rattle.prelude.specs.Parts.{slice_of};
 ghost use Rattle.account.specs.Buffer.{front_of, moved, moved_to_front};

@@ -1,67 +1,126 @@
 // Prints the account of a journal: of the file that its one argument names, or of standard input
 // where there is none. Nothing is printed before the whole journal was read.
+#![tactic(auto)]
+
 mod buffer;
 mod piece;
 
+ghost use Rattle.std.specs.Prelude.{◌≡◌, pos, negsuc, min, MatchResult};
+
 use buffer::front;
 use journal::Reading;
-use libc::{STDERR_FILENO, STDIN_FILENO, STDOUT_FILENO};
 use piece::{Answer, Next, answer_of, feed_piece, over};
+use std::env::{Env, FillError};
+use std::fmt::InlineText;
+use std::fs::Files;
+use std::io::{Error, Read};
+use std::rt::{Stderr, Stdout};
+use std::{fs, io, str};
 
-fn main() {
-    let words = os::arg_count();
-    if words < 2 {
-        print_account(STDIN_FILENO, b"standard input");
+// The most bytes of a path, with the NUL behind it.
+const PATH_SIZE: usize = 4096;
+
+const BUFFER_SIZE: usize = 65536;
+
+// The most bytes of what is said of an error.
+const REASON_SIZE: usize = 128;
+
+// The errors of an argument that is too long and of a path that is not UTF-8, which std opens none of.
+const ENAMETOOLONG: i32 = 36;
+
+const EILSEQ: i32 = 84;
+
+// What is printed on.
+#[derive(Clone, Copy)]
+struct Streams {
+    out: Stdout,
+    err: Stderr,
+}
+
+fn main(rt: HostRuntime) {
+    let streams = Streams {
+        out: rt.stdout(),
+        err: rt.stderr(),
+    };
+    let mut path = [0u8; PATH_SIZE];
+    if !has_argument(&rt, 1) {
+        print_account(streams, &mut rt.stdin(), b"standard input");
         return;
     }
-    if 2 < words {
-        io::write_all(STDERR_FILENO, b"account: ");
-        print_usage(STDERR_FILENO);
+    if has_argument(&rt, 2) {
+        put(&streams.err, b"account: ");
+        print_usage(&streams.err);
         return;
     }
-    let mut path = io::buffer();
-    let size = os::arg(1, &mut path);
-    if os::errno() != 0 {
-        fail(b"JOURNAL");
-        return;
+    match rt.arg(1, &mut path) {
+        Ok(size) => print_named(&rt, streams, &path[..size]),
+        Err(_) => fail(streams, b"JOURNAL", Error::from_raw_os_error(ENAMETOOLONG)),
     }
-    print_named(&path[..size]);
+}
+
+// Whether the program was started with an argument of this number, its own name being number 0.
+fn has_argument(env: &impl Env, i: usize) -> bool {
+    match env.arg(i, &mut []) {
+        Err(FillError::NotPresent) => false,
+        _ => true,
+    }
 }
 
 // Prints the account of the journal in the file, or the usage where that is asked for.
-fn print_named(path: &[u8]) {
-    if check::same(path, b"--help") {
-        print_usage(STDOUT_FILENO);
+fn print_named(files: &impl Files, streams: Streams, path: &[u8]) {
+    if path == b"--help".as_slice() {
+        print_usage(&streams.out);
         return;
     }
-    let fd = os::open_read(path);
-    if fd < 0 {
-        fail(path);
-        return;
+    match open(files, path) {
+        Ok(mut file) => print_account(streams, &mut file, path),
+        Err(error) => fail(streams, path, error),
     }
-    print_account(fd, path);
-    libc::close(fd);
 }
 
-fn print_usage(fd: i32) {
-    io::write_all(fd, b"usage: account [JOURNAL]\n");
+fn open<R: Files>(files: &R, path: &[u8]) -> io::Result<R::File> {
+    match str::from_utf8(path) {
+        Ok(path) => fs::open(files, path),
+        Err(_) => Err(Error::from_raw_os_error(EILSEQ)),
+    }
 }
 
-// Says on standard error what failed, and why the call just before it did.
-fn fail(name: &[u8]) {
-    io::write_all(STDERR_FILENO, b"account: ");
-    os::fail(name);
+fn print_usage(to: &impl Print) {
+    put(to, b"usage: account [JOURNAL]\n");
+}
+
+// Says on standard error what failed, and why.
+fn fail(streams: Streams, name: &[u8], error: Error) {
+    let reason = InlineText::<REASON_SIZE>::of(error);
+    put(&streams.err, b"account: ");
+    put(&streams.err, name);
+    put(&streams.err, b": ");
+    put(&streams.err, without_number(reason.as_str()).as_bytes());
+    put(&streams.err, b"\n");
+}
+
+// What std says of an error of the system's, without the number behind it.
+fn without_number(reason: &str) -> &str {
+    match reason.rsplit_once(" (os error ") {
+        Some((words, _)) => words,
+        None => reason,
+    }
+}
+
+// Nothing is left to say where standard error cannot be written.
+fn put(to: &impl Print, bytes: &[u8]) {
+    let _ = to.write_all(bytes);
 }
 
 // A proved loop has to end, and nothing says that the input does. So the loop counts its turns
 // down, from a number that no run uses up.
-fn print_account(fd: i32, name: &[u8]) {
-    let mut buffer = io::large_buffer();
+fn print_account(streams: Streams, input: &mut impl Read, name: &[u8]) {
+    let mut buffer = [0u8; BUFFER_SIZE];
     let mut reading = journal::start();
     let mut unused: usize = 0;
     let mut turns = u64::MAX;
     while turns > 0 {
-        let next = read_some(fd, name, &mut buffer, unused, reading);
+        let next = read_some(streams, input, name, &mut buffer, unused, reading);
         if next.is_over {
             return;
         }
@@ -73,31 +132,47 @@ fn print_account(fd: i32, name: &[u8]) {
 
 // Reads once behind the first `unused` bytes of the buffer and feeds what is there, or prints the
 // outcome where no more comes.
-fn read_some(fd: i32, name: &[u8], buffer: &mut [u8], unused: usize, reading: Reading) -> Next {
+fn read_some(
+    streams: Streams,
+    input: &mut impl Read,
+    name: &[u8],
+    buffer: &mut [u8],
+    unused: usize,
+    reading: Reading,
+) -> Next {
     if buffer.len() < unused {
         return over(reading);
     }
-    let room = &mut buffer[unused..];
-    let got = libc::read(fd, room);
-    let count = io::count(got, room);
-    match answer_of(got) {
+    let read = input.read(&mut buffer[unused..]);
+    match answer_of(number_of(read)) {
         Answer::Failed => {
-            fail(name);
+            if let Err(error) = read {
+                fail(streams, name, error);
+            }
             over(reading)
         }
         Answer::Ended => {
-            print_outcome(reading, unused);
+            print_outcome(streams, reading, unused);
             over(reading)
         }
-        Answer::Read => feed_piece(reading, buffer, unused + count),
+        Answer::Read => feed_piece(reading, buffer, unused + read.unwrap_or(0)),
     }
 }
 
-fn print_outcome(reading: Reading, unused: usize) {
+// What a read answered as the system's one number, which is below zero where it failed.
+fn number_of(read: io::Result<usize>) -> isize
+    ensures { MatchResult read (λ count. result ≡ pos (min count 9223372036854775807)) (λ _. result ≡ negsuc 0) }
+{
+    match read {
+        Ok(count) => isize::try_from(count).unwrap_or(isize::MAX),
+        Err(_) => -1,
+    }
+}
+
+fn print_outcome(streams: Streams, reading: Reading, unused: usize) {
     let mut out = [0u8; printout::MAX_PRINTOUT];
     let size = journal::conclude(reading, unused, &mut out);
-    let is_written = io::write_all(STDOUT_FILENO, front(&out, size));
-    if !is_written {
-        fail(b"standard output");
+    if let Err(error) = streams.out.write_all(front(&out, size)) {
+        fail(streams, b"standard output", error);
     }
 }

@@ -1,4 +1,6 @@
 // How reading goes on, by what a read answered and by what was read.
+#![tactic(auto, using(prelude::proofs::Tests::tests), unfolding(crate::specs::Piece::answer_of))]
+
 ghost use Rattle.std.specs.Prelude.{true, ◌≡◌};
 ghost use Rattle.account.specs.Piece.{answer_of, in_buffer, next_at, piece_fed, used_of};
 
@@ -6,7 +8,7 @@ use crate::buffer::{front, move_to_front};
 use journal::Reading;
 
 // What a read answered.
-#[derive(Drop)]
+#[derive(Clone, Copy)]
 pub(crate) enum Answer {
     Failed,
     // Nothing comes any more.
@@ -17,7 +19,7 @@ pub(crate) enum Answer {
 
 // How reading goes on: from here, with so many bytes at the start of the buffer that were not used
 // yet, or not at all.
-#[derive(Drop)]
+#[derive(Clone, Copy)]
 pub(crate) struct Next {
     pub(crate) reading: Reading,
     pub(crate) unused: usize,

@@ -8,7 +8,7 @@ use native.Mathlib.Omega.{arith}
 use lib.Dec.{ltb}
 use lib.ListN.{length}
 use borrow.Author.Tests.{ltb-false}
-use Rattle.prelude.specs.Choice.{if◌then◌else◌}
+use Rattle.prelude.specs.Choice.{when◌then◌else◌}
 use Rattle.settings.specs.Layout.{size, settings_in, sound}
 use Rattle.settings.proofs.Sound.{sound-tells}
 use Rattle.address.specs.declared.Address.{Address}
@@ -19,15 +19,15 @@ use Rattle.address.specs.Address.{flash_size, is_in_settings, source_of}
 -- the choice of a source by its three tests
 abbrev chosen : Bool → Bool → Bool → Source
 chosen is_sound is_short in_settings =
-    if is_sound then (if is_short then Nowhere else (if in_settings then Settings else Flash)) else Nowhere
+    when is_sound then (when is_short then Nowhere else (when in_settings then Settings else Flash)) else Nowhere
 
 chosen-settings : (s f r : Bool) → chosen s f r ≡ Settings → s ≡ true
-unfolding if◌then◌else◌
+unfolding when◌then◌else◌
 chosen-settings true f r h = refl
 chosen-settings false f r h = let z : ◌≡◌ {A = ℕ} 0 1 = cc in absurd (omega arith)
 
 chosen-flash : (s f r : Bool) → chosen s f r ≡ Flash → f ≡ false
-unfolding if◌then◌else◌
+unfolding when◌then◌else◌
 chosen-flash true false r h = refl
 chosen-flash true true r h = let z : ◌≡◌ {A = ℕ} 0 1 = cc in absurd (omega arith)
 chosen-flash false f r h = let z : ◌≡◌ {A = ℕ} 0 1 = cc in absurd (omega arith)

@@ -1,7 +1,7 @@
 -- The addresses in force: where each comes from, and the part that is shown (manual 5.8, 5.9).
 use Rattle.std.specs.Prelude.{ℕ, Bool, List, ltb, length}
 use Rattle.std.specs.Borrow.{Bor}
-use Rattle.prelude.specs.Choice.{if◌then◌else◌}
+use Rattle.prelude.specs.Choice.{when◌then◌else◌}
 use Rattle.prelude.specs.Parts.{Slice, part_of}
 use Rattle.settings.specs.Layout as layout
 use Rattle.settings.specs.Layout.{settings_in, sound, has_dedicated_mac, mac_at, ipv4_at, mac_size, ipv4_size}
@@ -22,9 +22,9 @@ flash_size = 10
 -- nowhere where the settings are not sound, which too short ones never are, or Flash is too short (manual 5.9)
 unfoldable pub source_of : Address → List ℕ → List ℕ → Source
 source_of address settings flash =
-    if sound settings then
-    (if ltb (length flash) flash_size then Nowhere else
-    if is_in_settings address (settings_in settings) then Settings else
+    when sound settings then
+    (when ltb (length flash) flash_size then Nowhere else
+    when is_in_settings address (settings_in settings) then Settings else
     Flash)
     else Nowhere
 

@@ -1,10 +1,12 @@
 // The addresses in force, each shown as a part of the settings or of the Flash block.
+#![tactic(auto)]
+
 ghost use Rattle.std.specs.Prelude.{◌≡◌, ◌≤◌, length};
 ghost use Rattle.prelude.specs.Parts.{slice_of};
 ghost use Rattle.settings.specs.Layout.{size, settings_in};
 ghost use Rattle.address.specs.Address.{flash_size, is_in_settings, settings_part, flash_part, source_of, in_force};
 
-#[derive(Drop)]
+#[derive(Clone, Copy)]
 pub enum Address {
     Mac,
     Ipv4,
@@ -12,7 +14,7 @@ pub enum Address {
 
 // Where an address in force comes from: from nowhere where the settings are not sound or the Flash
 // block has fewer than FLASH_SIZE bytes.
-#[derive(Drop)]
+#[derive(Clone, Copy)]
 pub enum Source {
     Nowhere,
     Settings,
@@ -40,6 +42,7 @@ pub fn ipv4_in_force<'a>(settings: &'a [u8], flash: &'a [u8]) -> &'a [u8]
     in_force(Address::Ipv4, settings, flash)
 }
 
+#[tactic(auto, using(prelude::proofs::Tests::tests), unfolding(crate::specs::Address::in_force))]
 fn in_force<'a>(address: Address, settings: &'a [u8], flash: &'a [u8]) -> &'a [u8]
     ensures { slice_of result ≡ in_force address settings.entry flash.entry }
 {
@@ -51,6 +54,7 @@ fn in_force<'a>(address: Address, settings: &'a [u8], flash: &'a [u8]) -> &'a [u
 }
 
 // Where the address in force comes from.
+#[tactic(auto, using(prelude::proofs::Tests::tests), unfolding(crate::specs::Address::source_of))]
 pub fn source_of(address: Address, settings: &[u8], flash: &[u8]) -> Source
     ensures { result ≡ source_of address settings.now flash.now }
 {
@@ -66,6 +70,7 @@ pub fn source_of(address: Address, settings: &[u8], flash: &[u8]) -> Source
     Source::Flash
 }
 
+#[tactic(auto, using(prelude::proofs::Tests::tests), unfolding(crate::specs::Address::is_in_settings, settings::specs::Layout::settings_in))]
 fn is_in_settings(address: Address, settings: &[u8]) -> bool
     requires { size ≤ length settings.now }
     ensures { result ≡ is_in_settings address (settings_in settings.now) }

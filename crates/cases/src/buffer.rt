@@ -42,7 +42,9 @@ pub(crate) fn fill(buffer: &mut Buffer, bytes: &[u8]) -> usize
     if bytes.len() > ROOM {
         return 0;
     }
-    bytes::copy(bytes, buffer)
+    let size = bytes.len();
+    buffer[..size].copy_from_slice(bytes);
+    size
 }
 
 // The bytes from `start` up to, not including, `end`, or none where the buffer has no such part.

@@ -38,7 +38,10 @@ fn word_end(text: &[u8], from: usize) -> usize
     requires { from ≤ length text.now }
     ensures { (from ≤ result) × (result ≤ length text.now) }
 {
-    bytes::scan::find(text, from, text.len(), b' ')
+    match text[from..].iter().position(|c| *c == b' ') {
+        Some(n) => from + n,
+        None => text.len(),
+    }
 }
 
 // Puts the bytes of a field behind those that are used, and answers how many are used then, or
@@ -108,7 +111,7 @@ pub(crate) fn first(ends: &[usize; MAX], count: usize) -> &[usize] {
 // the field's size.
 pub(crate) fn are(bytes: &Buffer, ends: &[usize], form: &[u8]) -> bool {
     let name_end = word_end(form, 0);
-    if !check::same(at(bytes, ends, 0), &form[0..name_end]) {
+    if at(bytes, ends, 0) != &form[0..name_end] {
         return false;
     }
     if form.len() - name_end != ends.len() {

@@ -75,6 +75,8 @@
 //
 // Any other line is answered by the line `not a case`, and so is what stands behind the last line
 // feed.
+#![tactic(auto)]
+
 mod answer;
 mod buffer;
 mod carried;
@@ -91,12 +93,16 @@ mod store;
 mod transaction;
 
 use buffer::{Buffer, NOT_A_CASE};
-use libc::{STDIN_FILENO, STDOUT_FILENO};
+use std::io;
+use std::io::Read;
 
 const MAX_LINE: usize = 8000;
 
+// How many bytes are read at once.
+const CHUNK: usize = 65536;
+
 // How the reading goes on: behind so many characters of a line, or not at all.
-#[derive(Drop)]
+#[derive(Clone, Copy)]
 enum Next {
     After(usize),
     Nothing,
@@ -104,77 +110,94 @@ enum Next {
 
 // A proved loop has to end, and nothing says that the input does. So the loop counts its turns
 // down, from a number that no run uses up.
-fn main() {
-    let mut chunk = io::large_buffer();
+fn main(rt: HostRuntime) -> io::Result<()> {
+    let mut chunk = [0u8; CHUNK];
     let mut line = buffer::new();
     let mut carried = buffer::new();
     let mut end: usize = 0;
     let mut turns = u64::MAX;
     while turns > 0 {
-        let Next::After(next) = read_some(&mut chunk, &mut line, &mut carried, end) else {
-            return;
+        let Next::After(next) = read_some(&rt, &mut chunk, &mut line, &mut carried, end)? else {
+            return Ok(());
         };
         end = next;
         turns -= 1;
     }
+    Ok(())
 }
 
 // Reads once, and answers the lines that this completes. The first `end` characters of `line` are
 // those that came before, and `carried` is what cases leave to later ones.
-fn read_some(chunk: &mut [u8], line: &mut Buffer, carried: &mut Buffer, end: usize) -> Next {
-    let got = libc::read(STDIN_FILENO, chunk);
-    if got < 0 {
-        os::fail(b"standard input");
-        return Next::Nothing;
-    }
-    if got == 0 {
+fn read_some(
+    rt: &HostRuntime,
+    chunk: &mut [u8],
+    line: &mut Buffer,
+    carried: &mut Buffer,
+    end: usize,
+) -> io::Result<Next> {
+    let n = rt.stdin().read(chunk)?;
+    if n == 0 {
         if end > 0 {
-            print(b"not a case\n");
+            print(rt, b"not a case\n")?;
         }
-        return Next::Nothing;
+        return Ok(Next::Nothing);
     }
-    let n = io::count(got, chunk);
-    take_all(&chunk[..n], line, carried, end)
+    let next = take_all(rt, &chunk[..n], line, carried, end)?;
+    Ok(Next::After(next))
 }
 
-fn take_all(characters: &[u8], line: &mut Buffer, carried: &mut Buffer, end: usize) -> Next {
+// Answers where the characters of the line that is not complete end then, as take does.
+fn take_all(
+    rt: &impl Print,
+    characters: &[u8],
+    line: &mut Buffer,
+    carried: &mut Buffer,
+    end: usize,
+) -> io::Result<usize> {
     let mut end = end;
     let mut i = 0;
     while i < characters.len() {
-        let Next::After(next) = take(characters[i], line, carried, end) else {
-            return Next::Nothing;
-        };
-        end = next;
+        end = take(rt, characters[i], line, carried, end)?;
         i += 1;
     }
-    Next::After(end)
+    Ok(end)
 }
 
-fn take(character: u8, line: &mut Buffer, carried: &mut Buffer, end: usize) -> Next {
+fn take(
+    rt: &impl Print,
+    character: u8,
+    line: &mut Buffer,
+    carried: &mut Buffer,
+    end: usize,
+) -> io::Result<usize> {
     if character != b'\n' {
-        return Next::After(buffer::put(line, end, character));
+        return Ok(buffer::put(line, end, character));
     }
-    if print_answer(line, end, carried) {
-        return Next::After(0);
-    }
-    Next::Nothing
+    print_answer(rt, line, end, carried)?;
+    Ok(0)
 }
 
 // Prints what answers the line of the first `end` characters. It answers as print does.
-fn print_answer(line: &Buffer, end: usize, carried: &mut Buffer) -> bool {
+fn print_answer(
+    rt: &impl Print,
+    line: &Buffer,
+    end: usize,
+    carried: &mut Buffer,
+) -> io::Result<()> {
     if end > MAX_LINE {
-        return print(b"not a case\n");
+        return print(rt, b"not a case\n");
     }
     let line = buffer::part(line, 0, end);
     if is_copied(line) {
-        return print(line) && print(b"\n");
+        print(rt, line)?;
+        return print(rt, b"\n");
     }
     let mut text = buffer::new();
     let end = put_answer(line, carried, &mut text);
     if end == NOT_A_CASE {
-        return print(b"not a case\n");
+        return print(rt, b"not a case\n");
     }
-    print(buffer::part(&text, 0, end))
+    print(rt, buffer::part(&text, 0, end))
 }
 
 fn is_copied(line: &[u8]) -> bool {
@@ -226,12 +249,7 @@ fn put_fields(bytes: &Buffer, ends: &[usize], carried: &mut Buffer, text: &mut B
     transaction::answer(bytes, ends, carried, text)
 }
 
-// Writes the text to standard output, or says on standard error why it could not, and answers
-// whether it could.
-fn print(text: &[u8]) -> bool {
-    let is_written = io::write_all(STDOUT_FILENO, text);
-    if !is_written {
-        os::fail(b"standard output");
-    }
-    is_written
+// Writes the text to standard output.
+fn print(rt: &impl Print, text: &[u8]) -> io::Result<()> {
+    rt.write_all(text)
 }

@@ -9,7 +9,7 @@ pub(crate) fn fill(bytes: &mut [u8], seed: u8) {
     let mut i = 0;
     while i < size {
         bytes[i] = byte;
-        byte = std::num::wrapping_add_u8(byte, STEP);
+        byte = byte.wrapping_add(STEP);
         i += 1;
     }
 }

@@ -3,6 +3,9 @@ use crate::answer::{put_u16, put_u32};
 use crate::buffer::{Buffer, NOT_A_CASE};
 use crate::{digest, fields, pattern};
 
+// Room for the store of a case, whose size is a number of two bytes.
+const MAX_SIZE: usize = 65536;
+
 // Answers as link::answer does.
 pub(crate) fn answer(bytes: &Buffer, ends: &[usize], text: &mut Buffer) -> usize {
     if fields::are(bytes, ends, b"fill 218") {
@@ -17,7 +20,7 @@ pub(crate) fn answer(bytes: &Buffer, ends: &[usize], text: &mut Buffer) -> usize
 // A store may be larger than a Buffer.
 fn answer_fill(bytes: &Buffer, ends: &[usize], text: &mut Buffer) -> usize {
     let size = fields::u16_at(bytes, ends, 1) as usize;
-    let mut space = io::large_buffer();
+    let mut space = [0u8; MAX_SIZE];
     let store = &mut space[0..size];
     pattern::fill(store, fields::u8_at(bytes, ends, 2));
     packet::fill(store, fields::u64_at(bytes, ends, 3));
@@ -26,7 +29,7 @@ fn answer_fill(bytes: &Buffer, ends: &[usize], text: &mut Buffer) -> usize {
 
 fn answer_shown(bytes: &Buffer, ends: &[usize], text: &mut Buffer) -> usize {
     let size = fields::u16_at(bytes, ends, 1) as usize;
-    let mut space = io::large_buffer();
+    let mut space = [0u8; MAX_SIZE];
     let store = &mut space[0..size];
     pattern::fill(store, fields::u8_at(bytes, ends, 2));
     put_shown(text, store, fields::u64_at(bytes, ends, 3))

@@ -6,7 +6,7 @@ use mathlib.Core.List.{List, [], ◌∷◌, ◌++◌, reverse}
 use mathlib.Core.Path.{◌≡◌, refl, sym, ap, ◌∙◌}
 use native.Mathlib.Omega.{arith}
 use lib.ListN.{length, get_or, length-append}
-use Rattle.prelude.specs.Choice.{if◌then◌else◌}
+use Rattle.prelude.specs.Choice.{when◌then◌else◌}
 use Rattle.prelude.proofs.Lists.{all-elements}
 use Rattle.state.specs.declared.Beside.{Beside}
 use Rattle.state.specs.Account.{besides, account_of}
@@ -47,10 +47,10 @@ as-many-append : (list more : List Item) → AsMany list → AsMany more → AsM
 as-many-append list more i j = rw (count-append list more (row sent) packets, sent-append list more, length-append (packets_sent list) (packets_sent more)) (omega (arith, i, j))
 
 as-many-run : (pieces : List (List ℕ)) (line : Line) → AsMany (run pieces line ∷ [])
-unfolding amount in_line if◌then◌else◌
+unfolding amount in_line when◌then◌else◌
 as-many-run pieces line = by-test (is_line line (row sent))
   where
-    by-test : (t : Bool) → (if t then 1 else 0) + 0 ≡ length ((if t then with_fill (concatenated pieces) ∷ [] else []) ++ [])
+    by-test : (t : Bool) → (when t then 1 else 0) + 0 ≡ length ((when t then with_fill (concatenated pieces) ∷ [] else []) ++ [])
     by-test true = refl
     by-test false = refl
 
@@ -63,7 +63,7 @@ as-many-begun (ends fate answer ∷ later) pieces = as-many-run pieces (row fate
 as-many-begun (passes answer ∷ later) pieces = as-many-begun later pieces
 
 as-many-alone : (answer : ℕ) → Alone answer → AsMany (alone [] (line_of answer) ∷ [])
-unfolding amount in_line if◌then◌else◌
+unfolding amount in_line when◌then◌else◌
 as-many-alone _ of-3 = refl
 as-many-alone _ of-7 = refl
 as-many-alone _ of-8 = refl
@@ -72,7 +72,7 @@ as-many-alone _ of-10 = refl
 as-many-alone _ of-11 = refl
 
 as-many-aborted : (held : List (List ℕ)) (piece : List ℕ) → AsMany (aborted_if held piece)
-unfolding amount in_line if◌then◌else◌
+unfolding amount in_line when◌then◌else◌
 as-many-aborted [] piece = refl
 as-many-aborted (p ∷ ps) piece = refl
 

@@ -10,12 +10,12 @@ use lib.Dec.{eqb}
 use lib.ListN.{length, take}
 use lib.Seq.{take-nil}
 use borrow.Author.Tests.{eqb-true, eqb-false}
-use Rattle.prelude.specs.Choice.{if◌then◌else◌}
+use Rattle.prelude.specs.Choice.{when◌then◌else◌}
 use Rattle.record.specs.Transaction.{Transaction}
 use Rattle.state.specs.Account.{limit}
 use Rattle.state.proofs.Soundness.{account-sound-tells, sound-tells}
 use Rattle.outcome.specs.declared.Reply.{Reply}
-use Rattle.history.specs.Lines.{is_counted, bytes}
+use Rattle.history.specs.Lines.{is_counted}
 use Rattle.history.specs.Reading.{Entry, counted, total, Setup}
 use Rattle.history.specs.Replies.{answered, reply_at}
 use Rattle.history.specs.Calls.{Call, transact, reads, Kept, reply_of, step, after, entry_if, entries_of, entries_by, has_room, with_room}
@@ -36,11 +36,11 @@ module _ (setup : Setup) (store settings : List ℕ) (start : 15 ≤ length sett
   within earlier kept r = omega (arith, r.counts.total_is, (account-sound-tells kept.state.account (sound-tells kept.state r.state_is_sound).account-is-sound).within)
 
   pub way : (n m : ℕ) (t : Transaction) (earlier : List Entry) (kept : Kept) → Reached setup store settings earlier kept → Way n m t earlier kept
-  unfolding is_counted if◌then◌else◌
+  unfolding is_counted when◌then◌else◌
   way n m t earlier kept r = by-room (has_room (length store) (length settings) n m) refl
     where
-      entries-are : (reply : Reply) → reply_of n m t kept ≡ reply → (b : Bool) → is_counted reply.answer ≡ b → entries_of (transact n m t) kept ≡ (if b then counted t ∷ [] else [])
-      entries-are reply e b c = ap (entry_if t) e ∙ ap (λ (x : Bool). if x then counted t ∷ [] else []) c
+      entries-are : (reply : Reply) → reply_of n m t kept ≡ reply → (b : Bool) → is_counted reply.answer ≡ b → entries_of (transact n m t) kept ≡ (when b then counted t ∷ [] else [])
+      entries-are reply e b c = ap (entry_if t) e ∙ ap (λ (x : Bool). when x then counted t ∷ [] else []) c
 
       by_total : (b : Bool) → eqb (total earlier) limit ≡ b → has_room (length store) (length settings) n m ≡ true → Way n m t earlier kept
       by_total true e room =
@@ -87,7 +87,7 @@ module _ (setup : Setup) (store settings : List ℕ) (start : 15 ≤ length sett
   -- the list is the first of the transactions that had room
   pub listed : (calls : List Call) (earlier : List Entry) (kept : Kept) → Reached setup store settings earlier kept
       → entries_by calls kept ≡ take (limit - total earlier) (with_room (length store) (length settings) calls)
-  unfolding if◌then◌else◌
+  unfolding when◌then◌else◌
   listed [] earlier kept r = sym (take-nil {A = Entry} (limit - total earlier))
   listed (reads ∷ calls) earlier kept r = listed calls earlier kept r
   listed (transact n m t ∷ calls) earlier kept r = by_way (way n m t earlier kept r) (listed calls)
@@ -102,7 +102,7 @@ module _ (setup : Setup) (store settings : List ℕ) (start : 15 ≤ length sett
       now = step (transact n m t) kept
 
       Result : Bool → Type 0
-      Result room = entries_of (transact n m t) kept ++ entries_by calls now ≡ take (limit - total earlier) (if room then counted t ∷ rest else rest)
+      Result room = entries_of (transact n m t) kept ++ entries_by calls now ≡ take (limit - total earlier) (when room then counted t ∷ rest else rest)
 
       by_way : Way n m t earlier kept → Later → Result (has_room (length store) (length settings) n m)
       by_way (is-counted room less adds replies reaches) later =

@@ -8,7 +8,7 @@ use lib.Dec.{ltb}
 use lib.ListN.{length, drop}
 use denote.Ref.{Bor}
 use Rattle.prelude.specs.After.{After, after}
-use Rattle.prelude.specs.Choice.{if◌then◌else◌}
+use Rattle.prelude.specs.Choice.{when◌then◌else◌}
 use Rattle.prelude.specs.Parts.{Slice, slice_of, part_of}
 use Rattle.packet.specs.Store.{max_packet, shown}
 use Rattle.record.specs.Transaction.{Transaction, transaction}
@@ -33,12 +33,12 @@ transact-is-step κs a result exit kept store_lent settings_lent same-state same
 
 -- what is shown of a slice are bytes of its contents, wherever it lies
 bytes-shown : (store : Bor (List ℕ)) (size : ℕ) → (shown store size).bytes ≡ shown_bytes store.now size
-unfolding shown if◌then◌else◌
+unfolding shown when◌then◌else◌
 bytes-shown store size = by_tests (ltb (length store.now) size) (ltb max_packet size)
   where
     by_tests : (short long : Bool)
-        → (if short then part_of 0 0 store else if long then part_of 0 0 store else part_of 0 size store).bytes
-        ≡ (if short then part_of 0 0 (record { ref_ptr = (0, 0); now = store.now }) else if long then part_of 0 0 (record { ref_ptr = (0, 0); now = store.now }) else part_of 0 size (record { ref_ptr = (0, 0); now = store.now })).bytes
+        → (when short then part_of 0 0 store else when long then part_of 0 0 store else part_of 0 size store).bytes
+        ≡ (when short then part_of 0 0 (record { ref_ptr = (0, 0); now = store.now }) else when long then part_of 0 0 (record { ref_ptr = (0, 0); now = store.now }) else part_of 0 size (record { ref_ptr = (0, 0); now = store.now })).bytes
     by_tests true long = refl
     by_tests false true = refl
     by_tests false false = refl

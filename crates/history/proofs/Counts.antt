@@ -7,7 +7,7 @@ use native.Mathlib.Omega.{arith}
 use lib.Dec.{eqb, ltb}
 use lib.ListN.{length}
 use borrow.Author.Tests.{eqb-true, eqb-false, ne_eqb, eq-eqb, lt-ltb}
-use Rattle.prelude.specs.Choice.{if◌then◌else◌}
+use Rattle.prelude.specs.Choice.{when◌then◌else◌}
 use Rattle.prelude.proofs.Tests.{if-true, if-false, if-cases}
 use Rattle.state.specs.declared.Account.{Account}
 use Rattle.state.specs.Account.{row_count, columns, no_row, packets_in, fragments_in, bytes_in, Formed, account_of}
@@ -58,7 +58,7 @@ amount-of item bytes = refl
 
 -- a count, where it belongs to the row that is asked for
 abbrev in_row : ℕ → ℕ → Fate → ℕ
-in_row at count other = if eqb at (row_of other) then count else 0
+in_row at count other = when eqb at (row_of other) then count else 0
 
 same_row : (fate : Fate) (count : ℕ) (other : Fate) → in_row (row_of fate) count other ≡ in_line (row fate) count (row other)
 unfolding in_line
@@ -120,7 +120,7 @@ adds-alone fate piece =
     subst (λ (bytes : List ℕ). Adds (row_of fate) 0 1 (length bytes) 0 0 (alone piece (row fate) ∷ [])) (append-nil piece) (adds-item fate (alone piece (row fate)) refl)
 
 pub adds-taken : Adds no_row 0 0 0 1 0 (alone [] taken ∷ [])
-unfolding amount in_line if◌then◌else◌
+unfolding amount in_line when◌then◌else◌
 adds-taken = record {
   in_rows = λ other c. no-row (amount_of 0 0 0 c) other ∙ sym (omega (arith, in-other-line taken (amount (alone [] taken) c) (row other) (λ q. omega (arith, row-in-grid other, q))));
   in_taken = refl;
@@ -129,7 +129,7 @@ adds-taken = record {
 }
 
 pub adds-refused : Adds no_row 0 0 0 0 1 (alone [] refused ∷ [])
-unfolding amount in_line if◌then◌else◌
+unfolding amount in_line when◌then◌else◌
 adds-refused = record {
   in_rows = λ other c. no-row (amount_of 0 0 0 c) other ∙ sym (omega (arith, in-other-line refused (amount (alone [] refused) c) (row other) (λ q. omega (arith, row-in-grid other, q))));
   in_taken = refl;
@@ -149,7 +149,7 @@ adds-closing fate (p ∷ ps) f b ef eb = rw (if-true (ltb 0 f) (row_of fate) no_
 pub left-none : (fate : Fate) (held : List (List ℕ)) (f n : ℕ) → f ≡ length held → (f ≡ 0 → n ≡ 0) → counting.left_open (ends_in (row_of fate) f) n ≡ 0
 unfolding ends_in counting.left_open
 left-none fate held f n ef none =
-    if-cases (λ (at : ℕ). (if ltb at row_count then 0 else n) ≡ 0) (ltb 0 f) (row_of fate) no_row
+    if-cases (λ (at : ℕ). (when ltb at row_count then 0 else n) ≡ 0) (ltb 0 f) (row_of fate) no_row
     (λ _. if-true _ _ _ (lt-ltb _ _ (row-in-grid fate)))
     (λ e. if-false (ltb no_row row_count) 0 n refl ∙ none (omega (arith, borrow.Author.Tests.ltb-false 0 f e)))
 

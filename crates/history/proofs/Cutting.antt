@@ -5,7 +5,7 @@ use mathlib.Core.Bool.{true, false}
 use mathlib.Core.List.{List, [], ◌∷◌, ◌++◌, append_assoc, append-nil, reverse_aux, reverse, reverse-reverse}
 use mathlib.Core.Path.{◌≡◌, refl, sym, ap, ◌∙◌}
 use native.Mathlib.Omega.{arith}
-use Rattle.prelude.specs.Choice.{if◌then◌else◌}
+use Rattle.prelude.specs.Choice.{when◌then◌else◌}
 use Rattle.history.specs.Lines.{superseded, Line, row, opened, line_of, Column}
 use Rattle.history.specs.Runs.{Role, begins, goes_on, ends, passes, grown, so_far, Item, run, alone, completed, run_from, begun, aborted_if, item_at, items, count_in, sent_by, packets_sent}
 
@@ -145,7 +145,7 @@ AreRoles [] = Unit
 AreRoles (role ∷ rest) = IsRole role × AreRoles rest
 
 pub alone-not-sent : (answer : ℕ) → Alone answer → packets_sent (alone [] (line_of answer) ∷ []) ≡ []
-unfolding if◌then◌else◌
+unfolding when◌then◌else◌
 alone-not-sent _ of-3 = refl
 alone-not-sent _ of-7 = refl
 alone-not-sent _ of-8 = refl
@@ -154,7 +154,7 @@ alone-not-sent _ of-10 = refl
 alone-not-sent _ of-11 = refl
 
 open-not-sent : (held : List (List ℕ)) → packets_sent (closing opened held) ≡ []
-unfolding if◌then◌else◌
+unfolding when◌then◌else◌
 open-not-sent [] = refl
 open-not-sent (p ∷ ps) = refl
 

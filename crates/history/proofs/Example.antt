@@ -1,7 +1,7 @@
 -- The example is what the history computes.
 -- Assumes nothing.
 use mathlib.Core.Path.{refl}
-use Rattle.prelude.specs.Choice.{if◌then◌else◌}
+use Rattle.prelude.specs.Choice.{when◌then◌else◌}
 use Rattle.history.specs.Lines.{in_line}
 use Rattle.history.specs.Packets.{sent_length}
 use Rattle.history.specs.Reading.{is_fragment, is_length_allowed, maximum_for}
@@ -11,5 +11,5 @@ use Rattle.history.specs.Replies.{last_reply}
 use Rattle.history.specs.Example.{AsPrinted}
 
 pub as-printed : AsPrinted
-unfolding if◌then◌else◌ in_line sent_length is_fragment is_length_allowed maximum_for is_control_allowed sets_mac sets_address enable_answer command_answer role_of last_answer amount last_reply
+unfolding when◌then◌else◌ in_line sent_length is_fragment is_length_allowed maximum_for is_control_allowed sets_mac sets_address enable_answer command_answer role_of last_answer amount last_reply
 as-printed = record { cells_are = refl; lines_are = refl; replies_are = refl; settings_are = refl; total_is = refl }

@@ -8,7 +8,7 @@ use native.Mathlib.Omega.{arith}
 use lib.Dec.{eqb, ltb, leb}
 use lib.ListN.{length, length-append}
 use borrow.Author.Tests.{ltb-false, lt-ltb, le-ltb, leb-true, leb-false, ne_eqb}
-use Rattle.prelude.specs.Choice.{if◌then◌else◌, ◌and◌}
+use Rattle.prelude.specs.Choice.{when◌then◌else◌, ◌and◌}
 use Rattle.prelude.proofs.Tests.{if-false}
 use Rattle.packet.specs.Store.{max_packet, min_packet, filled}
 use Rattle.packet.specs.Store as store_of
@@ -34,8 +34,8 @@ use Rattle.history.proofs.Counts.{Counts, Adds, adds_none, adds_run, adds-alone,
 use Rattle.history.proofs.Holds.{Holds, holds-nothing, written-holds, filled-length, sent-shown}
 
 -- two choices by one test
-pub if-both : {A B : Type 0} (P : A → B → Type 0) (t : Bool) (a b : A) (c d : B) → (t ≡ true → P a c) → (t ≡ false → P b d) → P (if t then a else b) (if t then c else d)
-unfolding if◌then◌else◌
+pub if-both : {A B : Type 0} (P : A → B → Type 0) (t : Bool) (a b : A) (c d : B) → (t ≡ true → P a c) → (t ≡ false → P b d) → P (when t then a else b) (when t then c else d)
+unfolding when◌then◌else◌
 if-both P true a b c d p q = p refl
 if-both P false a b c d p q = q refl
 
@@ -56,7 +56,7 @@ run-unsent fate pieces n = ap (λ (ps : List (List ℕ)). ps ++ []) (if-false _ 
 
 -- the role of a fragment with these flags
 abbrev pub fragment_role : (piece : List ℕ) (last link_up : Bool) → Setup → (first : Bool) → Role
-fragment_role piece last link_up setup first = if not (is_length_allowed setup piece) then ends broken 3 else if first then begins last piece link_up else goes_on last piece link_up
+fragment_role piece last link_up setup first = when not (is_length_allowed setup piece) then ends broken 3 else when first then begins last piece link_up else goes_on last piece link_up
 
 -- what is held and done once these fragments were joined, Last or not
 abbrev after_last : Bool → List (List ℕ) → List (List ℕ)
@@ -112,7 +112,7 @@ module _ (a : Account) (held : List (List ℕ)) (done : List Item) (total : ℕ)
     more_bytes = sym (total-snoc joining piece ∙ omega (arith, left-bytes))
 
     open-goes : Goes outcome.Joined ending (length piece) store_left pieces closes [] (answered 0)
-    unfolding packets_of if◌then◌else◌
+    unfolding packets_of when◌then◌else◌
     open-goes = record {
       counts-are =
           counted-counts outcome.Joined ending (length piece) a counts pieces closes [] closes-adds _ _ _ _ _ _ _ _ refl (adds_none 0 0 0) more-fragments more_bytes;
@@ -124,7 +124,7 @@ module _ (a : Account) (held : List (List ℕ)) (done : List Item) (total : ℕ)
     abbrev Ends : Outcome → ℕ → Type 0
     Ends o answer =
         Goes o ending (length piece) (join.filled_if o (total_of pieces) store_left) [] closes (run pieces (line_of answer) ∷ [])
-        (record { answer = answer; sent = if eqb answer 1 then sent_length (total_of pieces) else 0 })
+        (record { answer = answer; sent = when eqb answer 1 then sent_length (total_of pieces) else 0 })
 
     ended-counts : (o : Outcome) (fate : Fate)
         → counting.tally_of o (counting.left_open ending open_fragments) (counting.left_open ending open_bytes) (length piece) ≡ counting.whole (row_of fate) (counting.left_open ending open_fragments) (counting.left_open ending open_bytes) (length piece)
@@ -136,7 +136,7 @@ module _ (a : Account) (held : List (List ℕ)) (done : List Item) (total : ℕ)
     nothing-held = holds-nothing store_left store-holds.size_is store-holds.room
 
     over-goes : Ends (outcome.Discarded cause.Over) 4
-    unfolding join.filled_if packets_of if◌then◌else◌
+    unfolding join.filled_if packets_of when◌then◌else◌
     over-goes = record {
       counts-are = ended-counts (outcome.Discarded cause.Over) over refl;
       holds = nothing-held;
@@ -145,7 +145,7 @@ module _ (a : Account) (held : List (List ℕ)) (done : List Item) (total : ℕ)
     }
 
     short-goes : Ends (outcome.Discarded cause.Short) 5
-    unfolding join.filled_if packets_of if◌then◌else◌
+    unfolding join.filled_if packets_of when◌then◌else◌
     short-goes = record {
       counts-are = ended-counts (outcome.Discarded cause.Short) short refl;
       holds = nothing-held;
@@ -154,7 +154,7 @@ module _ (a : Account) (held : List (List ℕ)) (done : List Item) (total : ℕ)
     }
 
     linkdown-goes : Ends (outcome.Discarded cause.LinkDown) 6
-    unfolding join.filled_if packets_of if◌then◌else◌
+    unfolding join.filled_if packets_of when◌then◌else◌
     linkdown-goes = record {
       counts-are = ended-counts (outcome.Discarded cause.LinkDown) linkdown refl;
       holds = nothing-held;
@@ -163,7 +163,7 @@ module _ (a : Account) (held : List (List ℕ)) (done : List Item) (total : ℕ)
     }
 
     sent-goes : total_of pieces ≤ max_packet → Ends (outcome.Sent (store_of.sent_length (total_of pieces))) 1
-    unfolding join.filled_if packets_of sent_length store_of.sent_length if◌then◌else◌
+    unfolding join.filled_if packets_of sent_length store_of.sent_length when◌then◌else◌
     sent-goes within = record {
       counts-are = ended-counts (outcome.Sent (store_of.sent_length (total_of pieces))) sent refl;
       holds = holds-nothing (filled store_left (total_of pieces)) (filled-length store_left (total_of pieces) ∙ store-holds.size_is) (rw (filled-length store_left (total_of pieces)) store-holds.room);
@@ -181,7 +181,7 @@ module _ (a : Account) (held : List (List ℕ)) (done : List Item) (total : ℕ)
     joined-goes : (last : Bool)
         → (let s : join.Stored Outcome = join.joined at piece last link_up store in
         Goes s.result ending (length piece) s.store (after_last last pieces) closes (completes last link_up pieces) (taken_reply last link_up pieces))
-    unfolding last_reply if◌then◌else◌
+    unfolding last_reply when◌then◌else◌
     joined-goes last =
         subst (λ (s : join.Stored Outcome). Goes s.result ending (length piece) s.store (after_last last pieces) closes (completes last link_up pieces) (taken_reply last link_up pieces))
         (sym (joined-by-last at piece last link_up store)) (last-or-not last)
@@ -220,7 +220,7 @@ module _ (a : Account) (held : List (List ℕ)) (done : List Item) (total : ℕ)
         by-last false goes = goes false
 
     later-follows : Stores (judge.by_sequence (judge.sequence_of false open_fragments open_bytes) piece last link_up store) (goes_on last piece link_up)
-    unfolding judge.sequence_of judge.by_sequence packets_of if◌then◌else◌
+    unfolding judge.sequence_of judge.by_sequence packets_of when◌then◌else◌
     later-follows = by-held held refl last
       where
         Later : List (List ℕ) → Bool → Type 0
@@ -254,7 +254,7 @@ module _ (a : Account) (held : List (List ℕ)) (done : List Item) (total : ℕ)
         by-held (p ∷ ps) e false = rw (lt-ltb 0 open_fragments (omega (arith, counts.held_fragments, ap length e))) (some-goes p ps e false)
 
     bad-follows : Stores (join.stored (judge.bad_length open_fragments) store) (ends broken 3)
-    unfolding judge.bad_length packets_of if◌then◌else◌
+    unfolding judge.bad_length packets_of when◌then◌else◌
     bad-follows = record {
       counts-are =
           counted-counts (outcome.Discarded cause.BadLength) (judge.ends_in (row_of broken) open_fragments) 0 a counts [] (closing (row broken) held) (alone [] (line_of 3) ∷ [])
@@ -267,15 +267,15 @@ module _ (a : Account) (held : List (List ℕ)) (done : List Item) (total : ℕ)
     }
 
     pub fragment-follows : (setup : Setup) (first : Bool) → Stores (judge.fragment setup.maximum open_fragments open_bytes piece first last link_up store) (fragment_role piece last link_up setup first)
-    unfolding is_length_allowed judge.fragment judge.sequence_of judge.by_sequence if◌then◌else◌
+    unfolding is_length_allowed judge.fragment judge.sequence_of judge.by_sequence when◌then◌else◌
     fragment-follows setup first = by_tests (leb 1 (length piece)) (leb (length piece) setup.maximum) refl refl
       where
         Result : Bool → Bool → Type 0
         Result some few =
             Stores (judge.fragment setup.maximum open_fragments open_bytes piece first last link_up store)
-            (if not (some and few) then ends broken 3 else if first then begins last piece link_up else goes_on last piece link_up)
+            (when not (some and few) then ends broken 3 else when first then begins last piece link_up else goes_on last piece link_up)
 
-        by_first : (f : Bool) → Stores (judge.by_sequence (judge.sequence_of f open_fragments open_bytes) piece last link_up store) (if f then begins last piece link_up else goes_on last piece link_up)
+        by_first : (f : Bool) → Stores (judge.by_sequence (judge.sequence_of f open_fragments open_bytes) piece last link_up store) (when f then begins last piece link_up else goes_on last piece link_up)
         by_first true = first-follows
         by_first false = later-follows
 
@@ -290,7 +290,7 @@ module _ (a : Account) (held : List (List ℕ)) (done : List Item) (total : ℕ)
   module _ (store : List ℕ) (holds : Holds size store held) (o : Outcome) (answer k q : ℕ) (stands : Alone answer) (reply : reply_to o ≡ answered answer)
       (tally : (f b : ℕ) → counting.tally_of o f b 0 ≡ counting.tally no_row 0 0 0 f b k q) (adds : Adds no_row 0 0 0 k q (alone [] (line_of answer) ∷ [])) where
     none-sent : packets_of (reply_to o) (store ++ rest) ≡ []
-    unfolding packets_of if◌then◌else◌
+    unfolding packets_of when◌then◌else◌
     none-sent = ap (λ (r : Reply). packets_of r (store ++ rest)) reply ∙ by_answer answer stands
       where
         by_answer : (n : ℕ) → Alone n → packets_of (answered n) (store ++ rest) ≡ []

@@ -10,7 +10,7 @@ use lib.Dec.{ltb}
 use lib.ListN.{length, take, drop, replicate, length-append, length-replicate}
 use lib.Seq.{take_at, take-append-le, length-take-le}
 use borrow.Author.Tests.{ltb-true, ltb-false, lt-ltb, le-ltb}
-use Rattle.prelude.specs.Choice.{if◌then◌else◌}
+use Rattle.prelude.specs.Choice.{when◌then◌else◌}
 use Rattle.prelude.specs.Parts.{Slice, put}
 use Rattle.prelude.proofs.Lists.{length-put}
 use Rattle.prelude.proofs.Tests.{if-true, if-false, if-cases}
@@ -36,14 +36,14 @@ compared-within before (p ∷ ps) h =
     let rest : (before + length p) + length (compared_from (before + length p) ps) ≤ max_packet = compared-within (before + length p) ps within in
     rw length-append (omega arith))
 
-append-choice : (t : Bool) (before w piece : List ℕ) → before ++ (if t then w else w ++ piece) ≡ (if t then before ++ w else ((before ++ w) ++ piece))
-unfolding if◌then◌else◌
+append-choice : (t : Bool) (before w piece : List ℕ) → before ++ (when t then w else w ++ piece) ≡ (when t then before ++ w else ((before ++ w) ++ piece))
+unfolding when◌then◌else◌
 append-choice true before w piece = refl
 append-choice false before w piece = sym (append_assoc before w piece)
 
 -- one fragment more is compared where the total is still within the largest
 pub compared-snoc : (before : ℕ) (pieces : List (List ℕ)) (piece : List ℕ)
-    → compared_from before (pieces ++ piece ∷ []) ≡ (if ltb max_packet (before + (length (concatenated pieces) + length piece)) then compared_from before pieces else compared_from before pieces ++ piece)
+    → compared_from before (pieces ++ piece ∷ []) ≡ (when ltb max_packet (before + (length (concatenated pieces) + length piece)) then compared_from before pieces else compared_from before pieces ++ piece)
 compared-snoc before [] piece = rw (append-nil piece, zero-add)
 compared-snoc before (p ∷ ps) piece = by-test (ltb max_packet (before + length p)) refl (compared-snoc (before + length p) ps piece)
   where
@@ -57,8 +57,8 @@ compared-snoc before (p ∷ ps) piece = by-test (ltb max_packet (before + length
     whole = before + (length (p ++ concatenated ps) + length piece)
 
     by-test : (t : Bool) → ltb max_packet (before + length p) ≡ t
-        → compared_from (before + length p) (ps ++ piece ∷ []) ≡ (if ltb max_packet rest then compared_from (before + length p) ps else compared_from (before + length p) ps ++ piece)
-        → compared_from before (p ∷ (ps ++ piece ∷ [])) ≡ (if ltb max_packet whole then compared_from before (p ∷ ps) else compared_from before (p ∷ ps) ++ piece)
+        → compared_from (before + length p) (ps ++ piece ∷ []) ≡ (when ltb max_packet rest then compared_from (before + length p) ps else compared_from (before + length p) ps ++ piece)
+        → compared_from before (p ∷ (ps ++ piece ∷ [])) ≡ (when ltb max_packet whole then compared_from before (p ∷ ps) else compared_from before (p ∷ ps) ++ piece)
     by-test true e later =
         let past : max_packet < before + length p = ltb-true max_packet (before + length p) e in
         let over : ltb max_packet whole ≡ true = lt-ltb max_packet whole (omega (arith, sum)) in
@@ -103,7 +103,7 @@ written-holds {n} store piece held h = if-cases (λ (left : List ℕ). Holds n l
     size : ℕ
     size = length (concatenated held)
 
-    snoc : compared_from 0 (held ++ piece ∷ []) ≡ (if ltb max_packet (size + length piece) then compared_from 0 held else compared_from 0 held ++ piece)
+    snoc : compared_from 0 (held ++ piece ∷ []) ≡ (when ltb max_packet (size + length piece) then compared_from 0 held else compared_from 0 held ++ piece)
     snoc = compared-snoc 0 held piece ∙ rw zero-add
 
     past : ltb max_packet (size + length piece) ≡ true → Holds n store (held ++ piece ∷ [])
@@ -146,14 +146,14 @@ sent-shown store rest held h within = by-test (ltb (length (concatenated held)) 
     zeros = replicate (min_sent - size) 0
 
     by-test : (t : Bool) → ltb size min_sent ≡ t
-        → shown_bytes ((if ltb size min_sent then (if ltb (length store) min_sent then store else put store size zeros) else store) ++ rest) (if ltb size min_sent then min_sent else size) ≡ with_fill (concatenated held)
+        → shown_bytes ((when ltb size min_sent then (when ltb (length store) min_sent then store else put store size zeros) else store) ++ rest) (when ltb size min_sent then min_sent else size) ≡ with_fill (concatenated held)
     by-test true e =
         let less : size < min_sent = ltb-true size min_sent e in
         let many : length zeros ≡ min_sent - size = length-replicate (min_sent - size) 0 in
         let fits : size + length zeros ≤ length store = omega (arith, h.room) in
         let room : min_sent ≤ length (put store size zeros) = rw (length-put store zeros size fits) (omega (arith, h.room)) in
         let whole : size + length zeros ≡ min_sent = omega arith in
-        rw (if-true {A = List ℕ} _ (if ltb (length store) min_sent then store else put store size zeros) store e, if-true {A = ℕ} _ min_sent size e, if-false {A = List ℕ} _ store (put store size zeros) (le-ltb (length store) min_sent (omega (arith, h.room))))
+        rw (if-true {A = List ℕ} _ (when ltb (length store) min_sent then store else put store size zeros) store e, if-true {A = ℕ} _ min_sent size e, if-false {A = List ℕ} _ store (put store size zeros) (le-ltb (length store) min_sent (omega (arith, h.room))))
         (shown-within (put store size zeros ++ rest) min_sent (rw length-append (omega arith)) (omega arith)
         ∙ take-append-le min_sent (put store size zeros) rest room
         ∙ ap (λ (n : ℕ). take n (put store size zeros)) (sym whole)
@@ -162,7 +162,7 @@ sent-shown store rest held h within = by-test (ltb (length (concatenated held)) 
     by-test false e =
         let much : min_sent ≤ size = ltb-false size min_sent e in
         let none : min_sent - size ≡ 0 = omega arith in
-        rw (if-false {A = List ℕ} _ (if ltb (length store) min_sent then store else put store size zeros) store e, if-false {A = ℕ} _ min_sent size e)
+        rw (if-false {A = List ℕ} _ (when ltb (length store) min_sent then store else put store size zeros) store e, if-false {A = ℕ} _ min_sent size e)
         (shown-within (store ++ rest) size (rw length-append (omega (arith, h.room))) within
         ∙ take-append-le size store rest (omega (arith, h.room))
         ∙ front ∙ sym (ap (λ (n : ℕ). concatenated held ++ replicate n 0) none ∙ append-nil (concatenated held)))

@@ -11,7 +11,6 @@ use Rattle.history.specs.Packets.{total_of}
 use Rattle.history.specs.Reading.{Entry, counted, Setup}
 use Rattle.history.specs.Settings.{is_mac_kept}
 use Rattle.history.specs.Runs.{Role, begins, goes_on, ends, passes, role_of, roles_back, roles, grown, so_far, last_answer, run_from}
-use Rattle.history.specs.Replies.{reply_at}
 use Rattle.history.specs.Partition.{line_from, line_at, lines_after, lines_of}
 use Rattle.history.specs.LinesStay.{moved_to, LinesStay}
 use Rattle.history.proofs.Cutting.{Alone, of-3, of-7, of-8, of-9, of-10, of-11, IsRole, AreRoles}

@@ -6,7 +6,7 @@ use mathlib.Core.List.{List, [], ◌∷◌, ◌++◌, reverse_aux, reverse}
 use mathlib.Core.Path.{◌≡◌, refl, ap, ◌∙◌}
 use native.Mathlib.Omega.{arith}
 use lib.ListN.{length, length-append}
-use Rattle.prelude.specs.Choice.{if◌then◌else◌}
+use Rattle.prelude.specs.Choice.{when◌then◌else◌}
 use Rattle.prelude.proofs.Tests.{if-cases}
 use Rattle.history.specs.Lines.{Fate, sent, superseded, flushed, broken, over, short, linkdown, aborted, badlength, Line, row, opened, lines, line_of, fragments, is_line, in_line}
 use Rattle.history.specs.Packets.{total_of}
@@ -17,10 +17,10 @@ use Rattle.history.proofs.Cutting.{pending, Alone, of-3, of-7, of-8, of-9, of-10
 use Rattle.history.proofs.Roles.{are-roles, are-reversed, roles-length}
 
 in-line-add : (line : Line) (m n : ℕ) (other : Line) → in_line line (m + n) other ≡ in_line line m other + in_line line n other
-unfolding in_line if◌then◌else◌
+unfolding in_line when◌then◌else◌
 in-line-add line m n other = by-test (is_line line other)
   where
-    by-test : (t : Bool) → (if t then m + n else 0) ≡ (if t then m else 0) + (if t then n else 0)
+    by-test : (t : Bool) → (when t then m + n else 0) ≡ (when t then m else 0) + (when t then n else 0)
     by-test true = refl
     by-test false = refl
 
@@ -76,7 +76,7 @@ abbrev Once : Line → Type 0
 Once line = sum_over lines (in_line line 1) ≡ 1
 
 row-once : (fate : Fate) → Once (row fate)
-unfolding in_line if◌then◌else◌
+unfolding in_line when◌then◌else◌
 row-once sent = refl
 row-once superseded = refl
 row-once flushed = refl
@@ -88,7 +88,7 @@ row-once aborted = refl
 row-once badlength = refl
 
 opened-once : Once opened
-unfolding in_line if◌then◌else◌
+unfolding in_line when◌then◌else◌
 opened-once = refl
 
 last-once : (link_up : Bool) (size : ℕ) → Once (line_of (last_answer link_up size))
@@ -100,7 +100,7 @@ last-once link_up size =
     Is answer = Once (line_of answer)
 
 alone-once : (answer : ℕ) → Alone answer → Once (line_of answer)
-unfolding in_line if◌then◌else◌
+unfolding in_line when◌then◌else◌
 alone-once _ of-3 = refl
 alone-once _ of-7 = refl
 alone-once _ of-8 = refl

@@ -9,7 +9,7 @@ use lib.ListN.{length, take, drop, length-take, length-drop, length-append, take
 use lib.Seq.{length_front, take-take, take_at, drop_at}
 use borrow.Author.Tests.{le-ltb, lt-ltb, leb-true, leb-false, ne_eqb, eq-eqb}
 use Rattle.prelude.specs.After.{After, after}
-use Rattle.prelude.specs.Choice.{if◌then◌else◌, ◌and◌}
+use Rattle.prelude.specs.Choice.{when◌then◌else◌, ◌and◌}
 use Rattle.prelude.proofs.Tests.{if-true, if-false, if-first, if-second}
 use Rattle.packet.specs.Store.{max_packet}
 use Rattle.record.specs.Transaction.{Transaction, transaction}
@@ -55,20 +55,20 @@ sound-front lent rest h =
 module _ (s : State) (store settings : List ℕ) (t : Transaction) where
   when-ready : max_packet ≤ length store → layout.size ≤ length settings → sound s ≡ true → layout.sound settings ≡ true → (s.account.beside.total ≡ limit → ⊥)
       → transact.transacted s store settings t ≡ transact.applied s (transact.judged_on s store settings t)
-  unfolding transact.transacted transact.readiness_of transact.by_readiness if◌then◌else◌
+  unfolding transact.transacted transact.readiness_of transact.by_readiness when◌then◌else◌
   when-ready room settings-room h k n = rw (le-ltb _ _ room, le-ltb _ _ settings-room, h, k, ne_eqb s.account.beside.total limit n)
 
   when-full : max_packet ≤ length store → layout.size ≤ length settings → sound s ≡ true → layout.sound settings ≡ true → s.account.beside.total ≡ limit
       → transact.transacted s store settings t ≡ after (transact.with s outcome.Full) store settings
-  unfolding transact.transacted transact.readiness_of transact.by_readiness if◌then◌else◌
+  unfolding transact.transacted transact.readiness_of transact.by_readiness when◌then◌else◌
   when-full room settings-room h k e = rw (le-ltb _ _ room, le-ltb _ _ settings-room, h, k, eq-eqb s.account.beside.total limit e)
 
   without-store : length store < max_packet → transact.transacted s store settings t ≡ after (transact.with s outcome.NoRoom) store settings
-  unfolding transact.transacted transact.readiness_of transact.by_readiness if◌then◌else◌
+  unfolding transact.transacted transact.readiness_of transact.by_readiness when◌then◌else◌
   without-store less = rw (lt-ltb _ _ less)
 
   without-settings : max_packet ≤ length store → length settings < layout.size → transact.transacted s store settings t ≡ after (transact.with s outcome.NoRoom) store settings
-  unfolding transact.transacted transact.readiness_of transact.by_readiness if◌then◌else◌
+  unfolding transact.transacted transact.readiness_of transact.by_readiness when◌then◌else◌
   without-settings room less = rw (le-ltb _ _ room, lt-ltb _ _ less)
 
 -- what the caller keeps is what the entries, newest first, say; the buffers are as long as at the start
@@ -126,7 +126,7 @@ module _ (setup : Setup) (store settings : List ℕ) (start : 15 ≤ length sett
     pub replies : reply_of n m t kept ≡ answered answer
 
   no-room-rejects : transacted_by n m t kept ≡ after (transact.with kept.state outcome.NoRoom) lent_store lent_settings → Rejects 12
-  unfolding packets_of if◌then◌else◌
+  unfolding packets_of when◌then◌else◌
   no-room-rejects e = record {
     nothing_changes = ap (left_by kept store_rest settings_rest) e ∙ unmoved kept n m outcome.NoRoom (λ _. refl);
     replies = ap (λ (left : After Transacted). reply_to left.result.outcome) e;
@@ -155,7 +155,7 @@ module _ (setup : Setup) (store settings : List ℕ) (start : 15 ≤ length sett
     lent-is-sound = enough-is-sound settings-room
 
     pub full-rejects : total earlier ≡ limit → Rejects 14
-    unfolding packets_of if◌then◌else◌
+    unfolding packets_of when◌then◌else◌
     full-rejects full =
         let e : transacted_by n m t kept ≡ after (transact.with kept.state outcome.Full) lent_store lent_settings
         = when-full kept.state lent_store lent_settings t store-room settings-room r.state_is_sound lent-is-sound (r.counts.total_is ∙ full) in
@@ -227,7 +227,7 @@ module _ (setup : Setup) (store settings : List ℕ) (start : 15 ≤ length sett
         Served c d.result.outcome d.result.ends d.result.bytes d.store d.settings
 
     enable-served : JudgedServed 0xCA
-    unfolding class_in judge.by_class judge.enable role_of is_fragment command_answer if◌then◌else◌
+    unfolding class_in judge.by_class judge.enable role_of is_fragment command_answer when◌then◌else◌
     enable-served =
         let reads = enable-reads forms lent_settings (drop 15 lent_settings) bytes lent-settings-are lent-is-sound in
         record {
@@ -253,15 +253,15 @@ module _ (setup : Setup) (store settings : List ℕ) (start : 15 ≤ length sett
             (outcome.Refused _) 10 0 1 of-10 refl (λ f b. refl) adds-refused
 
     unknown-served : (c : ℕ) → (c ≡ 0x84 → ⊥) → (c ≡ 0x04 → ⊥) → (c ≡ 0x44 → ⊥) → (c ≡ 0xC4 → ⊥) → (c ≡ 0xCA → ⊥) → JudgedServed c
-    unfolding class_in judge.by_class judge.unknown if◌then◌else◌
+    unfolding class_in judge.by_class judge.unknown when◌then◌else◌
     unknown-served c n₁ n₂ n₃ n₄ n₅ =
         rw (ne_eqb c 0x84 n₁, ne_eqb c 0x04 n₂, ne_eqb c 0x44 n₃, ne_eqb c 0xC4 n₄, ne_eqb c 0xCA n₅)
         (record { follows = rw (unknown-role setup (is_mac_kept earlier) c bytes link_up n₁ n₂ n₃ n₄ n₅) (by_flags (has_both_flags c)); leaves = settings-stay c n₅ })
       where
         by_flags : (both : Bool)
-            → (let j = if both then judge.judged outcome.Unknown (judge.ends_in (row_of flushed) kept.state.account.beside.open_fragments) 0 else judge.judged outcome.Unknown 9 0 in
+            → (let j = when both then judge.judged outcome.Unknown (judge.ends_in (row_of flushed) kept.state.account.beside.open_fragments) 0 else judge.judged outcome.Unknown 9 0 in
             Follows kept.state.account held (done_back (roles_back setup earlier)) (total earlier) r.counts kept.sent r.sent_are (length lent_store) store_rest
-            j.outcome j.ends j.bytes lent_store (if both then ends flushed 7 else passes 7))
+            j.outcome j.ends j.bytes lent_store (when both then ends flushed 7 else passes 7))
         by_flags true =
             flush-follows kept.state.account held (done_back (roles_back setup earlier)) (total earlier) r.counts kept.sent r.sent_are (length lent_store) store_rest lent_store holds
             outcome.Unknown 7 0 1 of-7 refl (λ f b. refl) adds-refused
@@ -270,7 +270,7 @@ module _ (setup : Setup) (store settings : List ℕ) (start : 15 ≤ length sett
             outcome.Unknown 7 0 1 of-7 refl (λ f b. refl) adds-refused
 
     served : JudgedServed command
-    unfolding class_in judge.by_class role_of is_fragment if◌then◌else◌
+    unfolding class_in judge.by_class role_of is_fragment when◌then◌else◌
     served =
         by-command JudgedServed
         (fragment-served 0x84 true false (λ q. omega (arith, q)) refl)

@@ -7,7 +7,7 @@ use mathlib.Core.Path.{◌≡◌, refl, sym, ap, ◌∙◌}
 use native.Mathlib.Omega.{arith}
 use lib.ListN.{length, get_or}
 use borrow.Author.Tests.{eq-eqb, ne_eqb}
-use Rattle.prelude.specs.Choice.{if◌then◌else◌}
+use Rattle.prelude.specs.Choice.{when◌then◌else◌}
 use Rattle.record.specs.Transaction.{Transaction}
 use Rattle.outcome.specs.declared.Reply.{Reply}
 use Rattle.history.specs.Lines.{nowhere, line_of, is_counted}
@@ -44,7 +44,7 @@ module _ (setup : Setup) (store settings : List ℕ) (start : 15 ≤ length sett
       ∙ (ap (λ (list : List Role). line_at list role []) (reverse-reverse back) ∙ line-of-answer back role)))
 
   pub all-replies : Replies setup (length store) (length settings) entries kept n m t
-  unfolding reply_after is_counted if◌then◌else◌
+  unfolding reply_after is_counted when◌then◌else◌
   all-replies = by_way (way setup store settings start n m t (reverse entries) kept r)
     where
       by_way : Way setup store settings start n m t (reverse entries) kept → Replies setup (length store) (length settings) entries kept n m t

@@ -8,7 +8,7 @@ use native.Mathlib.Omega.{arith}
 use lib.Dec.{eqb}
 use lib.ListN.{length}
 use borrow.Author.Tests.{eqb-true, eqb-false, ne_eqb}
-use Rattle.prelude.specs.Choice.{if◌then◌else◌}
+use Rattle.prelude.specs.Choice.{when◌then◌else◌}
 use Rattle.prelude.proofs.Tests.{if-cases}
 use Rattle.record.specs.Transaction.{Transaction, transaction}
 use Rattle.translator.specs.Command.{has_both_flags}
@@ -37,8 +37,8 @@ by-command P p₁ p₂ p₃ p₄ p₅ other c =
 -- a command that is none of those
 pub unknown-role : (setup : Setup) (mac_kept : Bool) (c : ℕ) (bytes : List ℕ) (link_up : Bool)
     → (c ≡ 0x84 → ⊥) → (c ≡ 0x04 → ⊥) → (c ≡ 0x44 → ⊥) → (c ≡ 0xC4 → ⊥) → (c ≡ 0xCA → ⊥)
-    → role_of setup mac_kept (transaction c bytes link_up) ≡ (if has_both_flags c then ends flushed 7 else passes 7)
-unfolding role_of is_fragment command_answer has_both_flags if◌then◌else◌
+    → role_of setup mac_kept (transaction c bytes link_up) ≡ (when has_both_flags c then ends flushed 7 else passes 7)
+unfolding role_of is_fragment command_answer has_both_flags when◌then◌else◌
 unknown-role setup mac_kept c bytes link_up n₁ n₂ n₃ n₄ n₅ = rw (ne_eqb _ _ n₁, ne_eqb _ _ n₂, ne_eqb _ _ n₃, ne_eqb _ _ n₄, ne_eqb _ _ n₅)
 
 -- the answers of what stands alone

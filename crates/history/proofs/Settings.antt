@@ -10,7 +10,7 @@ use lib.ListN.{length, get_or, take, drop, length-append}
 use lib.Seq.{take_at, drop_at}
 use borrow.Author.Tests.{eqb-true, ne_eqb, le-ltb}
 use Rattle.prelude.specs.Bits.{bits, is_set}
-use Rattle.prelude.specs.Choice.{if◌then◌else◌, ◌and◌, ◌or◌}
+use Rattle.prelude.specs.Choice.{when◌then◌else◌, ◌and◌, ◌or◌}
 use Rattle.prelude.proofs.Lists.{length_part, drop_past}
 use Rattle.prelude.proofs.Tests.{if-false, if-cases, if-first, if-not-first}
 use Rattle.record.specs.Transaction.{Transaction}
@@ -50,14 +50,14 @@ sets-address-long form e = if-first _ _ e
 
 -- the byte of the kept bits
 mac-of : (mac address : Bool) → is_set 0 (layout.kept_bits mac address) ≡ mac
-unfolding if◌then◌else◌
+unfolding when◌then◌else◌
 mac-of true true = refl
 mac-of true false = refl
 mac-of false true = refl
 mac-of false false = refl
 
 address-of : (mac address : Bool) → is_set 1 (layout.kept_bits mac address) ≡ address
-unfolding if◌then◌else◌
+unfolding when◌then◌else◌
 address-of true true = refl
 address-of true false = refl
 address-of false true = refl
@@ -113,11 +113,11 @@ module _ (forms : List (List ℕ)) where
 
   -- one form more
   short-read : (form : List ℕ) → is_long_form form ≡ false → enable.short_form (as_settings forms) (control_of form) ≡ as_settings (form ∷ forms)
-  unfolding if◌then◌else◌ sets_mac sets_address
+  unfolding when◌then◌else◌ sets_mac sets_address
   short-read form e = rw e
 
   long-read : (form : List ℕ) → is_long_form form ≡ true → enable.long_form (as_settings forms) form ≡ as_settings (form ∷ forms)
-  unfolding if◌then◌else◌ sets_mac sets_address
+  unfolding when◌then◌else◌ sets_mac sets_address
   long-read form e = rw e (by_tests (has_cbdm form) (is_set 3 (control_of form)))
     where
       Left : Bool → Bool → layout.Settings
@@ -125,18 +125,18 @@ module _ (forms : List (List ℕ)) where
         control = control_of form;
         mac_kept = cbdm or is_kept sets_mac forms;
         address_kept = arp or is_kept sets_address forms;
-        mac = if cbdm then take 6 (drop 1 form) else take 6 (drop 1 (newest sets_mac forms));
-        ipv4 = if arp then take 4 (drop 7 form) else take 4 (drop 7 (newest sets_address forms));
+        mac = when cbdm then take 6 (drop 1 form) else take 6 (drop 1 (newest sets_mac forms));
+        ipv4 = when arp then take 4 (drop 7 form) else take 4 (drop 7 (newest sets_address forms));
         unread = take 3 (drop 11 form);
       }
 
       Right : Bool → Bool → layout.Settings
       Right cbdm arp = record {
         control = control_of form;
-        mac_kept = if cbdm then true else is_kept sets_mac forms;
-        address_kept = if arp then true else is_kept sets_address forms;
-        mac = take 6 (drop 1 (if cbdm then form else newest sets_mac forms));
-        ipv4 = take 4 (drop 7 (if arp then form else newest sets_address forms));
+        mac_kept = when cbdm then true else is_kept sets_mac forms;
+        address_kept = when arp then true else is_kept sets_address forms;
+        mac = take 6 (drop 1 (when cbdm then form else newest sets_mac forms));
+        ipv4 = take 4 (drop 7 (when arp then form else newest sets_address forms));
         unread = take 3 (drop 11 form);
       }
 
@@ -147,11 +147,11 @@ module _ (forms : List (List ℕ)) where
       by_tests false false = refl
 
 control-allowed : (control : ℕ) → layout.allowed control ≡ is_control_allowed control
-unfolding layout.allowed is_control_allowed if◌then◌else◌
+unfolding layout.allowed is_control_allowed when◌then◌else◌
 control-allowed control = by_tests (is_set 6 control) (eqb (bits 4 2 control) 3) (is_set 0 control) (is_set 7 control)
   where
     by_tests : (fixed both receives cbdm : Bool)
-        → (if fixed then (if both then false else if receives then true else if cbdm then false else true) else false) ≡ (fixed and not both and (receives or not cbdm))
+        → (when fixed then (when both then false else when receives then true else when cbdm then false else true) else false) ≡ (fixed and not both and (receives or not cbdm))
     by_tests false both receives cbdm = refl
     by_tests true true receives cbdm = refl
     by_tests true false true cbdm = refl
@@ -173,13 +173,13 @@ pub data AnswersAs : Enabled → ℕ → Type 0 where
 module _ (forms : List (List ℕ)) (settings rest form : List ℕ) (is : settings ≡ settings_of forms ++ rest) (sound : layout.sound settings ≡ true) where
   pub record Reads (left : enable.Answered Enabled) (answer : ℕ) : Type 0 where
     pub answers : AnswersAs left.answer answer
-    pub leaves : left.settings ≡ settings_of (if eqb answer 11 then form ∷ forms else forms) ++ rest
+    pub leaves : left.settings ≡ settings_of (when eqb answer 11 then form ∷ forms else forms) ++ rest
 
   unchanged : (e : Enabled) (answer : ℕ) → AnswersAs e answer → eqb answer 11 ≡ false → Reads (enable.answered e settings) answer
   unchanged e answer told n = record { answers = told; leaves = rw (if-false (eqb answer 11) (form ∷ forms) forms n) is }
 
   taken-with : (s : layout.Settings) → s ≡ as_settings (form ∷ forms) → Reads (enable.answered enabled.Taken (layout.with_settings s settings)) 11
-  unfolding if◌then◌else◌
+  unfolding when◌then◌else◌
   taken-with s e = record {
     answers = as-taken;
     leaves = ap (λ (x : layout.Settings). layout.with_settings x settings) e ∙ (written (form ∷ forms) settings ∙ ap (λ (r : List ℕ). settings_of (form ∷ forms) ++ r) (rest-is forms settings rest is));
@@ -190,17 +190,17 @@ module _ (forms : List (List ℕ)) (settings rest form : List ℕ) (is : setting
   long-enough = if-not-first _ _ sound
 
   pub enable-reads : Reads (enable.receive_enabled settings form) (enable_answer (is_kept sets_mac forms) form)
-  unfolding enable.receive_enabled enable.short_form_answered enable.long_form_answered enable_answer layout.has_its_mac if◌then◌else◌
+  unfolding enable.receive_enabled enable.short_form_answered enable.long_form_answered enable_answer layout.has_its_mac when◌then◌else◌
   enable-reads =
       rw (long-enough, sound, control-allowed (control_of form), mac-bit forms settings rest is)
       (by_tests (is_short_form form) (is_long_form form) (is_control_allowed (control_of form)) (has_cbdm form) (is_kept sets_mac forms) refl refl)
     where
       by_tests : (short long allowed cbdm mac : Bool) → is_short_form form ≡ short → is_long_form form ≡ long
           → Reads
-          (if short then (if allowed then (if (if cbdm then mac else true) then enable.answered enabled.Taken (layout.with_settings (enable.short_form (layout.settings_in settings) (control_of form)) settings) else enable.answered (enabled.Refused refusal.NoMac) settings) else enable.answered (enabled.Refused refusal.BadControl) settings) else
-          if long then (if allowed then enable.answered enabled.Taken (layout.with_settings (enable.long_form (layout.settings_in settings) form) settings) else enable.answered (enabled.Refused refusal.BadControl) settings) else
+          (when short then (when allowed then (when (when cbdm then mac else true) then enable.answered enabled.Taken (layout.with_settings (enable.short_form (layout.settings_in settings) (control_of form)) settings) else enable.answered (enabled.Refused refusal.NoMac) settings) else enable.answered (enabled.Refused refusal.BadControl) settings) else
+          when long then (when allowed then enable.answered enabled.Taken (layout.with_settings (enable.long_form (layout.settings_in settings) form) settings) else enable.answered (enabled.Refused refusal.BadControl) settings) else
           enable.answered (enabled.Refused refusal.BadForm) settings)
-          (if not (short or long) then 8 else if not allowed then 9 else if cbdm and short and not mac then 10 else 11)
+          (when not (short or long) then 8 else when not allowed then 9 else when cbdm and short and not mac then 10 else 11)
       by_tests true true allowed cbdm mac s l = absurd (true≢false (sym l ∙ short-not-long form s))
       by_tests true false true true true s l = taken-with _ (ap (λ (x : layout.Settings). enable.short_form x (control_of form)) (settings_are forms settings rest is) ∙ short-read forms form l)
       by_tests true false true true false s l = unchanged _ 10 as-no-mac refl
@@ -213,29 +213,29 @@ module _ (forms : List (List ℕ)) (settings rest form : List ℕ) (is : setting
 
 -- fresh settings are those that no form left
 pub fresh-read : (settings : List ℕ) → 15 ≤ length settings → (enable.freshened settings).settings ≡ settings_of [] ++ drop 15 settings
-unfolding enable.freshened layout.with_settings if◌then◌else◌
+unfolding enable.freshened layout.with_settings when◌then◌else◌
 fresh-read settings room = rw (le-ltb (length settings) 15 room)
 
 -- any other command takes no form
 pub other-forms : (t : Transaction) (earlier : List Entry) → (t.command ≡ 0xCA → ⊥) → taken_forms (counted t ∷ earlier) ≡ taken_forms earlier
-unfolding if◌then◌else◌
+unfolding when◌then◌else◌
 other-forms t earlier n = rw (ne_eqb t.command 0xCA n)
 
 kept-in-choice : (sets : List ℕ → Bool) (t : Bool) (form : List ℕ) (forms : List (List ℕ))
-    → is_kept sets (if t then form ∷ forms else forms) ≡ (if t then (if sets form then true else is_kept sets forms) else is_kept sets forms)
-unfolding if◌then◌else◌
+    → is_kept sets (when t then form ∷ forms else forms) ≡ (when t then (when sets form then true else is_kept sets forms) else is_kept sets forms)
+unfolding when◌then◌else◌
 kept-in-choice sets true form forms = refl
 kept-in-choice sets false form forms = refl
 
 pub mac-is-kept : MacIsKept
-unfolding sets_mac enable_answer if◌then◌else◌
+unfolding sets_mac enable_answer when◌then◌else◌
 mac-is-kept [] = refl
 mac-is-kept (counted t ∷ earlier) =
     kept-in-choice sets_mac (is_receive_enable t.command and eqb (enable_answer (is_mac_kept earlier) t.bytes) 11) t.bytes (taken_forms earlier)
     ∙ rw (mac-is-kept earlier) (by_tests (is_receive_enable t.command) (is_short_form t.bytes) (is_long_form t.bytes) (is_control_allowed (control_of t.bytes)) (has_cbdm t.bytes) (has_mac_form earlier) (short-not-long t.bytes))
   where
     by_tests : (command short long allowed cbdm mac : Bool) → (short ≡ true → long ≡ false)
-        → (if command and eqb (if not (short or long) then 8 else if not allowed then 9 else if cbdm and short and not mac then 10 else 11) 11 then (if long and cbdm then true else mac) else mac)
+        → (when command and eqb (when not (short or long) then 8 else when not allowed then 9 else when cbdm and short and not mac then 10 else 11) 11 then (when long and cbdm then true else mac) else mac)
         ≡ ((command and long and cbdm and allowed) or mac)
     by_tests false short long allowed cbdm mac e = refl
     by_tests true true true allowed cbdm mac e = absurd (true≢false (e refl))

@@ -1,7 +1,7 @@
 -- Lists of calls, what they leave and reply, and the entries that they add to the list (manual 1.5, 1.6, 2.3).
 use Rattle.std.specs.Prelude.{ℕ, min, Bool, List, [], ◌∷◌, ◌++◌, eqb, leb, take, drop}
 use Rattle.prelude.specs.After.{After}
-use Rattle.prelude.specs.Choice.{if◌then◌else◌, ◌and◌}
+use Rattle.prelude.specs.Choice.{when◌then◌else◌, ◌and◌}
 use Rattle.packet.specs.Store.{shown}
 use Rattle.record.specs.Transaction.{Transaction}
 use Rattle.state.specs.declared.State.{State}
@@ -38,7 +38,7 @@ shown_bytes store size = (shown (record { ref_ptr = (0, 0); now = store }) size)
 
 -- where a packet was sent, the caller sends what is shown of its sent length (manual 4.3, 4.4)
 unfoldable pub packets_of : Reply → List ℕ → List (List ℕ)
-packets_of reply store = if eqb reply.answer 1 then shown_bytes store reply.sent ∷ [] else []
+packets_of reply store = when eqb reply.answer 1 then shown_bytes store reply.sent ∷ [] else []
 
 -- what a transaction leaves, where the rest of the store and of the settings was not lent (manual 1.5)
 abbrev pub left_by : Kept → (store_rest settings_rest : List ℕ) → After Transacted → Kept
@@ -61,7 +61,7 @@ after (call ∷ calls) kept = after calls (step call kept)
 
 -- the entries that a transaction adds, by its reply, and a call: one that only reads adds none (manual 8.1)
 abbrev pub entry_if : Transaction → Reply → List Entry
-entry_if t reply = if is_counted reply.answer then counted t ∷ [] else []
+entry_if t reply = when is_counted reply.answer then counted t ∷ [] else []
 
 abbrev pub entries_of : Call → Kept → List Entry
 entries_of (transact store_lent settings_lent t) kept = entry_if t (reply_of store_lent settings_lent t kept)
@@ -85,7 +85,7 @@ has_room store_size settings_size store_lent settings_lent = leb store_needed (m
 abbrev pub with_room : (store_size settings_size : ℕ) → List Call → List Entry
 with_room store_size settings_size [] = []
 with_room store_size settings_size (transact store_lent settings_lent t ∷ calls) =
-    if has_room store_size settings_size store_lent settings_lent then counted t ∷ with_room store_size settings_size calls else with_room store_size settings_size calls
+    when has_room store_size settings_size store_lent settings_lent then counted t ∷ with_room store_size settings_size calls else with_room store_size settings_size calls
 with_room store_size settings_size (reads ∷ calls) = with_room store_size settings_size calls
 
 -- the total at which an account is full (manual 8.6)

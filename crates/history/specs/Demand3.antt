@@ -1,6 +1,6 @@
 -- Demand 3: after any calls from a fresh start, what the caller keeps and what every call replies are worked out from the list alone, and the list from the calls and the sizes of the buffers (manual 8.9).
 use Rattle.std.specs.Prelude.{ℕ, ◌≤◌, true, not, List, [], ◌∷◌, ◌++◌, reverse, ◌≡◌, eqb, length, get_or, take, drop}
-use Rattle.prelude.specs.Choice.{if◌then◌else◌}
+use Rattle.prelude.specs.Choice.{when◌then◌else◌}
 use Rattle.record.specs.Transaction.{Transaction}
 use Rattle.state.specs.Sound.{sound}
 use Rattle.state.specs.State.{made}
@@ -33,8 +33,8 @@ pub record Agrees (setup : Setup) (settings : List ℕ) (entries : List Entry) (
 -- 12 without room, 14 when full, and else by the list (manual 2.2)
 unfoldable pub reply_after : Setup → (store_size settings_size : ℕ) → List Entry → (store_lent settings_lent : ℕ) → Transaction → Reply
 reply_after setup store_size settings_size entries store_lent settings_lent t =
-    if not (has_room store_size settings_size store_lent settings_lent) then answered 12 else
-    if eqb (total entries) most_counted then answered 14 else
+    when not (has_room store_size settings_size store_lent settings_lent) then answered 12 else
+    when eqb (total entries) most_counted then answered 14 else
     reply_at setup (reverse entries) t
 
 -- of one more transaction: its reply, and the line in which it stands then, if it is counted (manual 2.2, 8.3)

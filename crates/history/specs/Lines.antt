@@ -1,6 +1,6 @@
 -- The lines and columns of the account (manual 8.2, 8.3, 8.5).
 use Rattle.std.specs.Prelude.{ℕ, Bool, not, List, [], ◌∷◌, ◌++◌, map, eqb, get_or}
-use Rattle.prelude.specs.Choice.{if◌then◌else◌}
+use Rattle.prelude.specs.Choice.{when◌then◌else◌}
 
 -- the rows of the grid (manual 8.2)
 pub data Fate : Type 0 where
@@ -43,7 +43,7 @@ is_line line other = eqb (line_number line) (line_number other)
 
 -- a count, where it belongs to the line that is asked for (manual 8.3)
 unfoldable pub in_line : Line → ℕ → Line → ℕ
-in_line line count asked = if is_line line asked then count else 0
+in_line line count asked = when is_line line asked then count else 0
 
 -- the lines of the answers 0 to 11 (manual 8.3)
 abbrev pub answer_lines : List Line

@@ -1,7 +1,7 @@
 -- The history's own reading of a transaction (manual 1, 3). Nothing of the rules is used: their constants stand here again on purpose.
 use Rattle.std.specs.Prelude.{ℕ, ◌+◌, Bool, List, [], ◌∷◌, eqb, leb, length}
 use Rattle.prelude.specs.Bits.{is_set}
-use Rattle.prelude.specs.Choice.{if◌then◌else◌, ◌and◌, ◌or◌}
+use Rattle.prelude.specs.Choice.{when◌then◌else◌, ◌and◌, ◌or◌}
 use Rattle.record.specs.Transaction.{Transaction}
 
 -- an entry of the list (manual 8.1)
@@ -22,7 +22,7 @@ abbrev pub largest_maximum : ℕ
 largest_maximum = 240
 
 unfoldable pub maximum_for : (asked : ℕ) → ℕ
-maximum_for asked = if leb 1 asked and leb asked largest_maximum then asked else largest_maximum
+maximum_for asked = when leb 1 asked and leb asked largest_maximum then asked else largest_maximum
 
 abbrev pub setup_for : (asked : ℕ) → Setup
 setup_for asked = record { maximum = maximum_for asked }

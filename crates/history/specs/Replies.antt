@@ -1,6 +1,6 @@
 -- What a transaction is answered, with its sent length, from what stands before it in the list (manual 2.1, 2.2).
 use Rattle.std.specs.Prelude.{ℕ, Bool, true, false, List, [], ◌∷◌, ◌++◌, eqb}
-use Rattle.prelude.specs.Choice.{if◌then◌else◌}
+use Rattle.prelude.specs.Choice.{when◌then◌else◌}
 use Rattle.record.specs.Transaction.{Transaction}
 use Rattle.outcome.specs.declared.Reply.{Reply}
 use Rattle.history.specs.Packets.{total_of, sent_length}
@@ -13,7 +13,7 @@ abbrev pub answered : (answer : ℕ) → Reply
 answered answer = record { answer = answer; sent = 0 }
 
 unfoldable pub last_reply : (link_up : Bool) (total : ℕ) → Reply
-last_reply link_up total = record { answer = last_answer link_up total; sent = if eqb (last_answer link_up total) 1 then sent_length total else 0 }
+last_reply link_up total = record { answer = last_answer link_up total; sent = when eqb (last_answer link_up total) 1 then sent_length total else 0 }
 
 -- a fragment was taken in, and was Last or not (manual 3.1, 3.6)
 abbrev pub taken_reply : (last link_up : Bool) → List (List ℕ) → Reply

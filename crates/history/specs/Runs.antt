@@ -1,6 +1,6 @@
 -- The list cut into First-to-Last runs and what stands alone, and the account that follows (manual 3, 8.9). A run is found by looking forward from the fragment that begins it, and the fragments so far at a place by looking back: no state is carried.
 use Rattle.std.specs.Prelude.{ℕ, ◌+◌, Bool, true, false, not, List, [], ◌∷◌, ◌++◌, reverse, ltb, length}
-use Rattle.prelude.specs.Choice.{if◌then◌else◌, ◌and◌}
+use Rattle.prelude.specs.Choice.{when◌then◌else◌, ◌and◌}
 use Rattle.record.specs.Transaction.{Transaction}
 use Rattle.state.specs.declared.Account.{Account}
 use Rattle.state.specs.Account.{besides, account_of}
@@ -17,16 +17,16 @@ pub data Role : Type 0 where
 
 -- 7, or as Receive Enable is answered (manual 2.1)
 unfoldable pub command_answer : (mac_kept : Bool) → Transaction → ℕ
-command_answer mac_kept t = if is_receive_enable t.command then enable_answer mac_kept t.bytes else 7
+command_answer mac_kept t = when is_receive_enable t.command then enable_answer mac_kept t.bytes else 7
 
 -- a fragment of a bad length breaks, a command with F and L flushes, any other passes (manual 3.4, 3.5)
 unfoldable pub role_of : Setup → (mac_kept : Bool) → Transaction → Role
 role_of setup mac_kept t =
-    if is_fragment t.command then
-    (if not (is_length_allowed setup t.bytes) then ends broken 3 else
-    if has_f t.command then begins (has_l t.command) t.bytes t.link_up else
+    when is_fragment t.command then
+    (when not (is_length_allowed setup t.bytes) then ends broken 3 else
+    when has_f t.command then begins (has_l t.command) t.bytes t.link_up else
     goes_on (has_l t.command) t.bytes t.link_up)
-    else if has_f t.command and has_l t.command then ends flushed (command_answer mac_kept t)
+    else when has_f t.command and has_l t.command then ends flushed (command_answer mac_kept t)
     else passes (command_answer mac_kept t)
 
 -- the roles of entries newest first, and of the list (manual 8.9)
@@ -70,9 +70,9 @@ alone piece line = record { packet_count = 0; pieces = piece ∷ []; line = line
 -- of a run that reached its Last: 4, 5, 6, else sent (manual 3.6)
 unfoldable pub last_answer : (link_up : Bool) (total : ℕ) → ℕ
 last_answer link_up total =
-    if ltb largest_total total then 4 else
-    if ltb total smallest_total then 5 else
-    if link_up then 1 else 6
+    when ltb largest_total total then 4 else
+    when ltb total smallest_total then 5 else
+    when link_up then 1 else 6
 
 abbrev pub completed : (link_up : Bool) → List (List ℕ) → Item
 completed link_up pieces = run pieces (line_of (last_answer link_up (total_of pieces)))
@@ -127,7 +127,7 @@ account_for setup entries =
 
 -- the packet that an item sends, with its fill, and all packets sent, in order (manual 4.3)
 abbrev pub sent_by : Item → List (List ℕ)
-sent_by item = if is_line item.line (row sent) then with_fill (concatenated item.pieces) ∷ [] else []
+sent_by item = when is_line item.line (row sent) then with_fill (concatenated item.pieces) ∷ [] else []
 
 abbrev pub packets_sent : List Item → List (List ℕ)
 packets_sent [] = []

@@ -1,7 +1,7 @@
 -- The settings that the list leaves, found by looking back for what set each part last (manual 5). Nothing of the rules is used: offsets, bits and constants stand here again on purpose.
 use Rattle.std.specs.Prelude.{ℕ, ◌+◌, Bool, true, false, not, List, [], ◌∷◌, ◌++◌, ◌≡◌, eqb, length, get_or, take, drop, replicate}
 use Rattle.prelude.specs.Bits.{bits, is_set}
-use Rattle.prelude.specs.Choice.{if◌then◌else◌, ◌and◌, ◌or◌}
+use Rattle.prelude.specs.Choice.{when◌then◌else◌, ◌and◌, ◌or◌}
 use Rattle.history.specs.Reading.{Entry, counted, is_receive_enable}
 
 -- the two forms of Receive Enable (manual 5.2)
@@ -31,35 +31,35 @@ sets_address form = is_long_form form and is_set 3 (control_of form)
 -- of forms, newest first: whether one sets a part, and the newest that does; a fresh record is as a long form would leave it (manual 5.4)
 abbrev pub is_kept : (sets : List ℕ → Bool) → List (List ℕ) → Bool
 is_kept sets [] = false
-is_kept sets (form ∷ forms) = if sets form then true else is_kept sets forms
+is_kept sets (form ∷ forms) = when sets form then true else is_kept sets forms
 
 abbrev pub fresh_form : List ℕ
 fresh_form = 0x40 ∷ replicate 13 0
 
 abbrev pub newest : (sets : List ℕ → Bool) → List (List ℕ) → List ℕ
 newest sets [] = fresh_form
-newest sets (form ∷ forms) = if sets form then form else newest sets forms
+newest sets (form ∷ forms) = when sets form then form else newest sets forms
 
 -- the 15 bytes: control, the two kept bits, MAC, address, and the bytes kept unread (manual 5.3)
 abbrev pub settings_of : List (List ℕ) → List ℕ
 settings_of forms =
     control_of (newest (λ form. true) forms)
-    ∷ ((if is_kept sets_mac forms then 1 else 0) + (if is_kept sets_address forms then 2 else 0))
+    ∷ ((when is_kept sets_mac forms then 1 else 0) + (when is_kept sets_address forms then 2 else 0))
     ∷ take 6 (drop 1 (newest sets_mac forms)) ++ (take 4 (drop 7 (newest sets_address forms)) ++ take 3 (drop 11 (newest is_long_form forms)))
 
 -- 8, 9, 10 and else 11 (manual 5.6)
 unfoldable pub enable_answer : (mac_kept : Bool) (form : List ℕ) → ℕ
 enable_answer mac_kept form =
-    if not (is_short_form form or is_long_form form) then 8 else
-    if not (is_control_allowed (control_of form)) then 9 else
-    if has_cbdm form and is_short_form form and not mac_kept then 10 else
+    when not (is_short_form form or is_long_form form) then 8 else
+    when not (is_control_allowed (control_of form)) then 9 else
+    when has_cbdm form and is_short_form form and not mac_kept then 10 else
     11
 
 -- of entries, newest first: the forms that were taken, newest first, and whether a MAC is kept (manual 5.5)
 abbrev pub taken_forms : (earlier : List Entry) → List (List ℕ)
 taken_forms [] = []
 taken_forms (counted t ∷ earlier) =
-    if is_receive_enable t.command and eqb (enable_answer (is_kept sets_mac (taken_forms earlier)) t.bytes) 11 then t.bytes ∷ taken_forms earlier
+    when is_receive_enable t.command and eqb (enable_answer (is_kept sets_mac (taken_forms earlier)) t.bytes) 11 then t.bytes ∷ taken_forms earlier
     else taken_forms earlier
 
 abbrev pub is_mac_kept : (earlier : List Entry) → Bool

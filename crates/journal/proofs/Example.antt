@@ -2,7 +2,7 @@
 -- Assumes nothing.
 use mathlib.Core.Path.{refl}
 use Rattle.packet.specs.Store.{sent_length, filled}
-use Rattle.prelude.specs.Choice.{if◌then◌else◌}
+use Rattle.prelude.specs.Choice.{when◌then◌else◌}
 use Rattle.prelude.specs.Parts.{put}
 use Rattle.printout.specs.Printout.{decimal_in, field, fields, fate_lines, open_packets, count_lines, printout}
 use Rattle.record.specs.Records.{records_after}
@@ -24,28 +24,28 @@ pub example : Example
 unfolding output parsed is_marked header_in records_after all_transacted printout fate_lines count_lines open_packets fields field decimal_in
     transacted readiness_of by_readiness by_class fragment by_sequence joined completed completed_of filled_if bad_length sequence_of enable unknown ends_in class_in has_both_flags add_to left_open grid_after counted
     state-sound.row_sound state-sound.rows_sound state-sound.singles_sound state-sound.open_sound state-sound.sum_holds state-sound.account_sound state-sound.sound all_fragments
-    sent_length filled put receive_enabled short_form_answered settings_layout.allowed settings_layout.with_settings settings_layout.settings_in settings_layout.has_its_mac settings_layout.sound if◌then◌else◌
+    sent_length filled put receive_enabled short_form_answered settings_layout.allowed settings_layout.with_settings settings_layout.settings_in settings_layout.has_its_mac settings_layout.sound when◌then◌else◌
 example = refl
 
 pub byte-by-byte : ByteByByte
 unfolding output parsed is_marked header_in records_after all_transacted printout fate_lines count_lines open_packets fields field decimal_in
     transacted readiness_of by_readiness by_class fragment by_sequence joined completed completed_of filled_if bad_length sequence_of enable unknown ends_in class_in has_both_flags add_to left_open grid_after counted
     state-sound.row_sound state-sound.rows_sound state-sound.singles_sound state-sound.open_sound state-sound.sum_holds state-sound.account_sound state-sound.sound all_fragments
-    sent_length filled put receive_enabled short_form_answered settings_layout.allowed settings_layout.with_settings settings_layout.settings_in settings_layout.has_its_mac settings_layout.sound if◌then◌else◌
+    sent_length filled put receive_enabled short_form_answered settings_layout.allowed settings_layout.with_settings settings_layout.settings_in settings_layout.has_its_mac settings_layout.sound when◌then◌else◌
 byte-by-byte = refl
 
 pub cut-is-bad : CutIsBad
-unfolding output parsed is_marked header_in records_after if◌then◌else◌
+unfolding output parsed is_marked header_in records_after when◌then◌else◌
 cut-is-bad = (refl, refl)
 
 pub every-row : EveryRow
 unfolding output parsed is_marked header_in records_after all_transacted printout fate_lines count_lines open_packets fields field decimal_in
     transacted readiness_of by_readiness by_class fragment by_sequence joined completed completed_of filled_if bad_length sequence_of enable unknown ends_in class_in has_both_flags add_to left_open grid_after counted
     state-sound.row_sound state-sound.rows_sound state-sound.singles_sound state-sound.open_sound state-sound.sum_holds state-sound.account_sound state-sound.sound all_fragments
-    sent_length filled put receive_enabled short_form_answered settings_layout.allowed settings_layout.with_settings settings_layout.settings_in settings_layout.has_its_mac settings_layout.sound if◌then◌else◌
+    sent_length filled put receive_enabled short_form_answered settings_layout.allowed settings_layout.with_settings settings_layout.settings_in settings_layout.has_its_mac settings_layout.sound when◌then◌else◌
 every-row = refl
 
 pub different-numbers : DifferentNumbers
 unfolding printout fate_lines count_lines open_packets fields field decimal_in
-    state-sound.row_sound state-sound.rows_sound state-sound.singles_sound state-sound.open_sound state-sound.sum_holds state-sound.account_sound all_fragments if◌then◌else◌
+    state-sound.row_sound state-sound.rows_sound state-sound.singles_sound state-sound.open_sound state-sound.sum_holds state-sound.account_sound all_fragments when◌then◌else◌
 different-numbers = (refl, refl)

@@ -7,7 +7,7 @@ use lib.ListN.{length, take, drop_of_length-le}
 use lib.Seq.{take_all}
 use Rattle.prelude.specs.After.{After}
 use Rattle.prelude.specs.After as prelude
-use Rattle.prelude.specs.Choice.{if◌then◌else◌}
+use Rattle.prelude.specs.Choice.{when◌then◌else◌}
 use Rattle.printout.specs.Printout.{printout}
 use Rattle.record.specs.Transaction.{Transaction}
 use Rattle.settings.specs.Layout.{with_settings}
@@ -70,12 +70,12 @@ replayed-is-calls (t ∷ rest) kept whole =
 
 -- every call has room
 all-have-room : (transactions : List Transaction) → with_room (length empty_store) (length settings_at_start) (map call_of transactions) ≡ map counted transactions
-unfolding has_room with_settings if◌then◌else◌
+unfolding has_room with_settings when◌then◌else◌
 all-have-room [] = refl
 all-have-room (t ∷ rest) = ap (λ (entries : List Entry). counted t ∷ entries) (all-have-room rest)
 
 settings-are-fresh : (freshened settings_at_start).settings ≡ settings_at_start
-unfolding freshened with_settings if◌then◌else◌
+unfolding freshened with_settings when◌then◌else◌
 settings-are-fresh = refl
 
 settings-length : length settings_at_start ≡ settings_needed

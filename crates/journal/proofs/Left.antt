@@ -3,25 +3,22 @@
 use Prim.Native.Nat.{ℕ, zero, suc, ◌+◌, ◌≤◌, ◌<◌, zero-le}
 use mathlib.Core.Bool.{Bool, true, false, true≢false}
 use mathlib.Core.List.{List, [], ◌∷◌}
-use mathlib.Core.Path.{◌≡◌, refl, sym, ap, subst, ◌∙◌}
+use mathlib.Core.Path.{◌≡◌, refl, sym, subst}
 use native.Mathlib.Nat.{le_of_suc-le-suc, not-suc-le-zero}
 use native.Mathlib.Omega.{arith}
-use lib.Dec.{eqb, ltb}
-use lib.ListN.{length, get_or, take, drop, length-drop}
+use lib.ListN.{length, take, drop, length-drop}
 use lib.Seq.{length-take-le, get_or-drop}
 use borrow.Author.Tests.{ltb-true, ltb-false}
-use Rattle.prelude.specs.Choice.{if◌then◌else◌}
+use Rattle.prelude.specs.Choice.{when◌then◌else◌}
 use Rattle.prelude.proofs.Tests.{if-cases}
-use Rattle.record.specs.Records.{Records, one, records_after, records_in}
-use Rattle.record.specs.Transaction.{transaction}
+use Rattle.record.specs.Records.{Records, records_after, records_in}
 use Rattle.translator.specs.declared.records.Replay.{Replay}
 use Rattle.translator.specs.Replay.{records_taken, replayed, fresh_replay}
 use Rattle.journal.specs.declared.header.Header.{Header}
 use Rattle.journal.specs.declared.header.Header.TheVariants as header
-use Rattle.journal.specs.declared.reading.Reading.{Reading}
 use Rattle.journal.specs.declared.reading.Stage.{Stage}
 use Rattle.journal.specs.declared.reading.Stage.TheVariants as stage
-use Rattle.journal.specs.Feeding.{stage_after, records_fed, is_bad, is_bad_stage, by_header, by_stage, fed}
+use Rattle.journal.specs.Feeding.{stage_after, records_fed, is_bad, is_bad_stage, by_header, by_stage}
 use Rattle.journal.specs.Format.{header_size, header_in}
 use Rattle.journal.specs.Properties.{max_record, AreBytes, LessThanARecord}
 use Rattle.journal.proofs.Headers.{cut_short}
@@ -54,7 +51,7 @@ records-left zero (command ∷ link ∷ size ∷ rest) small h good =
     whole-left inside others = let long : length (take size rest) ≡ size = length-take-le size rest inside in omega arith
 
 good-link : (b : Bool) → is_bad_stage (stage_after b) ≡ false → b ≡ false
-unfolding if◌then◌else◌
+unfolding when◌then◌else◌
 good-link true e = absurd (true≢false e)
 good-link false e = refl
 

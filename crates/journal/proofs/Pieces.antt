@@ -10,7 +10,7 @@ use lib.ListN.{length, get_or, drop, length-append, length-drop, get_or-append}
 use lib.Seq.{drop-drop, drop-append-le}
 use borrow.Author.Tests.{le-ltb}
 use Rattle.prelude.specs.After.{After, after}
-use Rattle.prelude.specs.Choice.{if◌then◌else◌}
+use Rattle.prelude.specs.Choice.{when◌then◌else◌}
 use Rattle.prelude.proofs.Tests.{if-true, if-false, if-cases}
 use Rattle.printout.specs.Printout.{Written, shown}
 use Rattle.record.specs.Records.{Records, records_in}
@@ -18,7 +18,8 @@ use Rattle.record.specs.Transaction.{Transaction}
 use Rattle.record.proofs.Resuming.{and_then, records-append}
 use Rattle.state.specs.declared.State.{State}
 use Rattle.translator.specs.declared.records.Replay.{Replay}
-use Rattle.translator.specs.Replay.{all_transacted, stopped_after, records_taken, replay_of, replayed_with, replayed, fresh_replay}
+use Rattle.translator.specs.Replay.{state_after, all_transacted, stopped_after, records_taken, replay_of, replayed_with, replayed, fresh_replay}
+use Rattle.translator.specs.Transact.{transacted}
 use Rattle.journal.specs.declared.header.Header.{Header}
 use Rattle.journal.specs.declared.header.Header.TheVariants as header
 use Rattle.journal.specs.declared.reading.Fed.{Fed}
@@ -36,7 +37,7 @@ use Rattle.journal.proofs.Whole.{fed-within, whole-concluded}
 all_append : (c : After State) (first second : List Transaction) → all_transacted c (first ++ second) ≡ all_transacted (all_transacted c first) second
 unfolding all_transacted
 all_append c [] second = refl
-all_append c (t ∷ rest) second = all_append _ rest second
+all_append c (t ∷ rest) second = all_append (state_after (transacted c.result c.store c.settings t)) rest second
 
 -- a header that is there stays what it is
 header-append : (bytes more : List ℕ) → header_size ≤ length bytes → header_in (bytes ++ more) ≡ header_in bytes
@@ -80,7 +81,7 @@ module _ (r : Replay) (before : ℕ) (bytes more : List ℕ) (h : before ≤ len
 
   met : (b : Bool) → here.bad_link ≡ b
       → fed_by (and_then here (records_in (drop (before + here.used) bytes ++ more))) ≡ onward_from b (drop (before + here.used) bytes ++ more)
-  unfolding by_stage replayed records_taken if◌then◌else◌
+  unfolding by_stage replayed records_taken when◌then◌else◌
   met true e =
       ap (fed_by) (if-true _ _ _ e)
       ∙ (ap (λ (b : Bool). fed_to (reading_at (stage_after b) (replay_at reached)) (before + here.used)) e
@@ -143,7 +144,7 @@ all-pieces p [] e = sym e
 all-pieces p (piece ∷ rest) e = all-pieces (fed_on p piece) rest (two_pieces p piece [] ∙ ap (fed_on p) (append-nil piece)) ∙ two_pieces p piece (joined rest)
 
 fed-nothing : fed_on at_start [] ≡ at_start
-unfolding by_stage by_header header_in if◌then◌else◌
+unfolding by_stage by_header header_in when◌then◌else◌
 fed-nothing = refl
 
 any_pieces : (pieces : List (List ℕ)) → fed_pieces at_start pieces ≡ fed_on at_start (joined pieces)

@@ -10,7 +10,7 @@ use lib.Dec.{eqb, ltb}
 use lib.ListN.{length, get_or, take, drop, length-append}
 use lib.Seq.{length-take-le, take_all, take-add, take-append_seam, drop-append_seam}
 use borrow.Author.Tests.{ltb-false, eqb-true, le-ltb, eq-eqb}
-use Rattle.prelude.specs.Choice.{if◌then◌else◌}
+use Rattle.prelude.specs.Choice.{when◌then◌else◌}
 use Rattle.prelude.proofs.Lists.{by-elements}
 use Rattle.prelude.proofs.Tests.{if-true, if-false, if-cases, if-first, if-second}
 use Rattle.record.specs.Records.{link_byte, records_of, Records, one, records_after, records_in}
@@ -54,10 +54,10 @@ records-written (t ∷ rest) =
     place e = omega arith
 
 written_is_read : (maximum : ℕ) (transactions : List Transaction) → 1 ≤ maximum → maximum ≤ max_maximum → parsed (journal_of maximum transactions) ≡ good maximum transactions
-unfolding parsed header_in is_marked if◌then◌else◌
+unfolding parsed header_in is_marked when◌then◌else◌
 written_is_read maximum transactions least most =
     ap (λ (h : Header). with_header h (records_of transactions)) read
-    ∙ (ap (λ (r : Records). if eqb r.used (length (records_of transactions)) then good maximum r.transactions else bad) (records-written transactions)
+    ∙ (ap (λ (r : Records). when eqb r.used (length (records_of transactions)) then good maximum r.transactions else bad) (records-written transactions)
     ∙ if-true (eqb size size) (good maximum transactions) bad (eq-eqb size size refl))
   where
     size : ℕ

@@ -9,7 +9,7 @@ use lib.Dec.{eqb}
 use lib.ListN.{length, drop, length-drop}
 use borrow.Author.Tests.{eqb-true, eqb-false, eq-eqb, ne_eqb}
 use Rattle.prelude.specs.After.{After, after}
-use Rattle.prelude.specs.Choice.{if◌then◌else◌}
+use Rattle.prelude.specs.Choice.{when◌then◌else◌}
 use Rattle.prelude.proofs.Tests.{if-true, if-false, if-cases}
 use Rattle.printout.specs.Printout.{Written, printout, shown, printed}
 use Rattle.record.specs.Records.{Records, records_in}
@@ -19,12 +19,13 @@ use Rattle.state.specs.declared.Account.{Account}
 use Rattle.state.specs.declared.State.{State}
 use Rattle.state.specs.Account.{Formed}
 use Rattle.state.specs.Sound.{account_sound, sound}
-use Rattle.state.specs.State.{max_maximum, fresh_state, made}
+use Rattle.state.specs.State.{max_maximum, fresh_state}
 use Rattle.state.proofs.FreshStates.{made-fresh, fresh-sound}
 use Rattle.state.proofs.Soundness.{sound-tells}
 use Rattle.translator.specs.declared.records.Replay.{Replay}
 use Rattle.translator.specs.declared.records.Replayed.{Replayed}
-use Rattle.translator.specs.Replay.{all_transacted, records_taken, empty_store, settings_at_start, fresh_replay, replayed}
+use Rattle.translator.specs.Replay.{state_after, all_transacted, records_taken, empty_store, settings_at_start, fresh_replay, replayed}
+use Rattle.translator.specs.Transact.{transacted}
 use Rattle.translator.proofs.Properties.{every-transaction}
 use Rattle.journal.specs.declared.header.Header.{Header}
 use Rattle.journal.specs.declared.header.Header.TheVariants as header
@@ -45,7 +46,7 @@ unfolding all_transacted
 all_sound c [] formed h = h
 all_sound c (t ∷ rest) formed h =
     let left : _ = every-transaction c.result c.store c.settings t formed in
-    all_sound _ rest left.account_stays_formed (left.state_stays_sound h)
+    all_sound (state_after (transacted c.result c.store c.settings t)) rest left.account_stays_formed (left.state_stays_sound h)
 
 -- not all of it is used: bad, whatever was read
 concluded-left : (reading : Reading) (unused : ℕ) (out : List ℕ) → (unused ≡ 0 → ⊥) → concluded reading unused out ≡ shown bad_journal out
@@ -56,7 +57,7 @@ concluded-left reading unused out h = if-false _ _ _ (ne_eqb unused 0 h)
 concluded-all : (bad_link : Bool) (replay : Replay) (unused : ℕ) (out : List ℕ) → (bad_link ≡ true → ⊥) → unused ≡ 0
     → account_sound replay.state.account ≡ true
     → concluded (reading_at (stage_after bad_link) replay) unused out ≡ shown (printout replay.state.account) out
-unfolding concluded concluded_at printed if◌then◌else◌
+unfolding concluded concluded_at printed when◌then◌else◌
 concluded-all true replay unused out h e s = absurd (h refl)
 concluded-all false replay unused out h e s = if-true _ _ _ (eq-eqb unused 0 e) ∙ if-true _ _ _ s
 
@@ -95,8 +96,8 @@ module _ (maximum : ℕ) (journal : List ℕ) (out : List ℕ) (g : Good journal
   within = used-within 0 rest (omega arith)
 
   all-or-left : (t : Bool) → eqb records.used (length rest) ≡ t
-      → concluded (records_fed left).reading (length journal - left.at) out ≡ shown (output_of (if t then good maximum records.transactions else bad)) out
-  unfolding if◌then◌else◌
+      → concluded (records_fed left).reading (length journal - left.at) out ≡ shown (output_of (when t then good maximum records.transactions else bad)) out
+  unfolding when◌then◌else◌
   all-or-left true e =
       concluded-all left.bad_link left.replay _ out (λ b. not-below (eqb-true _ _ e) (within.left (sym met ∙ b))) none (subst (λ (a : Account). account_sound a ≡ true) (sym account-is) account-sound)
       ∙ ap (λ (a : Account). shown (printout a) out) account-is

@@ -1,6 +1,6 @@
 -- A journal that is fed in pieces: what one call takes of a piece, and the outcome in the end (manual 9.3, 9.4).
 use Rattle.std.specs.Prelude.{ℕ, Bool, true, false, List, eqb, drop}
-use Rattle.prelude.specs.Choice.{if◌then◌else◌}
+use Rattle.prelude.specs.Choice.{when◌then◌else◌}
 use Rattle.printout.specs.Printout.{Written, shown, printed}
 use Rattle.state.specs.State.{max_maximum}
 use Rattle.translator.specs.declared.records.Replay.{Replay}
@@ -28,7 +28,7 @@ started = reading_at stage.Start (fresh_replay max_maximum)
 
 -- a bad link byte is bad for good (manual 9.3)
 abbrev pub stage_after : Bool → Stage
-stage_after bad_link = if bad_link then stage.Bad else stage.Records
+stage_after bad_link = when bad_link then stage.Bad else stage.Records
 
 -- a reading once records were replayed (manual 9.2)
 abbrev pub records_fed : Replayed → Fed
@@ -68,4 +68,4 @@ concluded_at stage.Bad replay out = shown bad_journal out
 
 -- a journal of which a byte is left is bad: what it begins is cut (manual 9.3)
 unfoldable pub concluded : Reading → ℕ → List ℕ → Written
-concluded reading unused out = if eqb unused 0 then concluded_at reading.stage reading.replay out else shown bad_journal out
+concluded reading unused out = when eqb unused 0 then concluded_at reading.stage reading.replay out else shown bad_journal out

@@ -1,7 +1,7 @@
 -- A journal: its header and its records (manual 9.1, 9.2, 9.3).
 use Rattle.std.specs.Prelude.{ℕ, ◌+◌, Bool, List, [], ◌∷◌, ◌++◌, eqb, ltb, length, get_or, drop}
 use Rattle.prelude.specs.Ascii.{ascii}
-use Rattle.prelude.specs.Choice.{if◌then◌else◌, ◌and◌}
+use Rattle.prelude.specs.Choice.{when◌then◌else◌, ◌and◌}
 use Rattle.record.specs.Records.{records_of, records_in}
 use Rattle.record.specs.Transaction.{Transaction}
 use Rattle.state.specs.State.{max_maximum}
@@ -37,10 +37,10 @@ is_marked bytes =
 -- what some bytes begin with, taken as a header: cut, bad, or the maximum that it names (manual 9.1, 9.3)
 unfoldable pub header_in : List ℕ → Header
 header_in bytes =
-    if ltb (length bytes) header_size then header.Cut else
-    if is_marked bytes then
-    (if ltb (get_or bytes mark_size 0) 1 then header.Bad else
-    if ltb max_maximum (get_or bytes mark_size 0) then header.Bad else
+    when ltb (length bytes) header_size then header.Cut else
+    when is_marked bytes then
+    (when ltb (get_or bytes mark_size 0) 1 then header.Bad else
+    when ltb max_maximum (get_or bytes mark_size 0) then header.Bad else
     header.Maximum (get_or bytes mark_size 0))
     else header.Bad
 
@@ -54,7 +54,7 @@ abbrev pub with_header : Header → List ℕ → Journal
 with_header header.Cut rest = bad
 with_header header.Bad rest = bad
 with_header (header.Maximum maximum) rest =
-    if eqb (records_in rest).used (length rest) then good maximum (records_in rest).transactions else bad
+    when eqb (records_in rest).used (length rest) then good maximum (records_in rest).transactions else bad
 
 -- a whole journal, by its bytes (manual 9.1, 9.2, 9.3)
 unfoldable pub parsed : List ℕ → Journal

@@ -1,5 +1,5 @@
 -- The outcome of a whole journal (manual 9.3, 9.4).
-use Rattle.std.specs.Prelude.{ℕ, List, []}
+use Rattle.std.specs.Prelude.{ℕ, List}
 use Rattle.prelude.specs.After.{after}
 use Rattle.printout.specs.Printout.{printout}
 use Rattle.record.specs.Transaction.{Transaction}

@@ -1,4 +1,6 @@
 // The header of a journal.
+#![tactic(auto, using(prelude::proofs::Tests::tests), unfolding(crate::specs::Format::header_in, crate::specs::Format::is_marked))]
+
 ghost use Rattle.std.specs.Prelude.{◌≡◌, ◌≤◌, length};
 ghost use Rattle.journal.specs.Format.{header_in, header_size, is_marked};
 
@@ -10,7 +12,7 @@ const MARK: [u8; MARK_SIZE] = [b'T', b'C', b'O', 1, 0];
 // The mark and the maximum.
 pub const HEADER_SIZE: usize = MARK_SIZE + 1;
 
-#[derive(Drop)]
+#[derive(Clone, Copy)]
 pub enum Header {
     // Fewer bytes than a header has.
     Cut,

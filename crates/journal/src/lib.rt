@@ -2,6 +2,8 @@
 //
 // A caller starts with `start`, feeds what it has with `feed`, puts the bytes that were not used
 // before the next ones and feeds again, and prints the outcome with `conclude` when no more come.
+#![tactic(auto)]
+
 mod header;
 mod reading;
 

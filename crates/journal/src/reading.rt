@@ -1,4 +1,6 @@
 // A journal that is read in pieces.
+#![tactic(auto, using(prelude::proofs::Tests::tests), unfolding(crate::specs::Feeding::by_header, crate::specs::Feeding::by_stage, crate::specs::Feeding::concluded_at, crate::specs::Feeding::concluded))]
+
 ghost use Rattle.std.specs.Prelude.{◌≡◌, drop};
 ghost use Rattle.printout.specs.Printout.{written, shown};
 ghost use Rattle.translator.specs.Replay.{replayed};
@@ -9,7 +11,7 @@ ghost use Rattle.journal.specs.Journal.{output};
 use crate::header::{HEADER_SIZE, Header, read_header};
 use translator::Replay;
 
-#[derive(Drop)]
+#[derive(Clone, Copy)]
 pub enum Stage {
     // The header is still to come.
     Start,
@@ -20,14 +22,14 @@ pub enum Stage {
 }
 
 // What is known of a journal so far. Before its header is read, the replay is for the largest maximum.
-#[derive(Drop)]
+#[derive(Clone, Copy)]
 pub struct Reading {
     stage: Stage,
     replay: Replay,
 }
 
 // A reading that went on, and how many bytes of the part it used.
-#[derive(Drop)]
+#[derive(Clone, Copy)]
 pub struct Fed {
     pub reading: Reading,
     pub used: usize,

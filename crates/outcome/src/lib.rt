@@ -1,11 +1,13 @@
 // What a transaction was answered, and its answer number.
+#![tactic(auto)]
+
 ghost use Rattle.std.specs.Prelude.{◌≡◌};
 ghost use Rattle.outcome.specs.Outcome.{cause_number, number_of, reply_to, sent_length_of};
 
 use settings::Refusal;
 
 // What a transaction was answered.
-#[derive(Drop)]
+#[derive(Clone, Copy)]
 pub enum Outcome {
     // 0: a fragment joined its packet, which stays open.
     Joined,
@@ -28,7 +30,7 @@ pub enum Outcome {
 }
 
 // Why a fragment or its packet was not sent.
-#[derive(Drop)]
+#[derive(Clone, Copy)]
 pub enum Cause {
     // 2: not First, and no packet is open.
     Aborted,
@@ -44,7 +46,7 @@ pub enum Cause {
 
 // An outcome in numbers: the answer, and the sent length of a packet that was sent, else 0.
 #[repr(C)]
-#[derive(Drop)]
+#[derive(Clone, Copy)]
 pub struct Reply {
     pub answer: u32,
     pub sent: u32,

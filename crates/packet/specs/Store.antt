@@ -1,7 +1,7 @@
 -- The lent assembly store: how long a packet may be, and one filled up and shown (manual 1.5, 3.6, 4.3, 4.4).
 use Rattle.std.specs.Prelude.{ℕ, ◌-◌, List, ltb, length, replicate}
 use Rattle.std.specs.Borrow.{Bor}
-use Rattle.prelude.specs.Choice.{if◌then◌else◌}
+use Rattle.prelude.specs.Choice.{when◌then◌else◌}
 use Rattle.prelude.specs.Parts.{Slice, put, part_of}
 
 -- the most bytes of a packet, and the least bytes of a store (manual 1.5, 3.6)
@@ -19,18 +19,18 @@ min_sent = 60
 -- zeros behind a packet that is sent (manual 4.3)
 unfoldable pub filled : List ℕ → ℕ → List ℕ
 filled store total =
-    if ltb total min_sent then
-    (if ltb (length store) min_sent then store else
+    when ltb total min_sent then
+    (when ltb (length store) min_sent then store else
     put store total (replicate (min_sent - total) 0))
     else store
 
 -- how many bytes are sent (manual 4.3)
 unfoldable pub sent_length : ℕ → ℕ
-sent_length total = if ltb total min_sent then min_sent else total
+sent_length total = when ltb total min_sent then min_sent else total
 
 -- the first bytes, or an empty part where so many are not there or not allowed (manual 4.4)
 unfoldable pub shown : Bor (List ℕ) → ℕ → Slice
 shown store size =
-    if ltb (length store.now) size then part_of 0 0 store else
-    if ltb max_packet size then part_of 0 0 store else
+    when ltb (length store.now) size then part_of 0 0 store else
+    when ltb max_packet size then part_of 0 0 store else
     part_of 0 size store

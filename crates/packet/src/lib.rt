@@ -1,4 +1,6 @@
 // The assembly store that the caller lends: how long a packet may be, and one filled up and shown.
+#![tactic(auto, using(prelude::proofs::Tests::tests), unfolding(crate::specs::Store::sent_length, crate::specs::Store::shown))]
+
 ghost use Rattle.std.specs.Prelude.{◌≡◌};
 ghost use Rattle.prelude.specs.Parts.{slice_of};
 ghost use Rattle.packet.specs.Store.{filled};

@@ -10,7 +10,7 @@ use native.Mathlib.Omega.{arith}
 use lib.Dec.{T}
 use lib.ListN.{length, get_or, take, drop, length-take, length-drop, length-append, drop_of_length-le, get_or-append}
 use lib.Seq.{get_or-take, get_or-drop, get_or-append-add, take_all, take-add, take-length, take_at, take-append_seam, length-take-le, drop_at, drop-drop, drop-cons, drop-append-add}
-use Rattle.prelude.specs.Choice.{if◌then◌else◌}
+use Rattle.prelude.specs.Choice.{when◌then◌else◌}
 use Rattle.prelude.specs.Parts.{part, put, ChangesOnly}
 
 -- the test holds of each entry of a table, which a proof computes
@@ -82,8 +82,8 @@ put-over before old piece after at b e =
 
 -- the same where the piece is given
 pub put-over-if : (given : Bool) (before old piece after : List ℕ) (at : ℕ) → length before ≡ at → length old ≡ length piece
-    → (if given then put (before ++ (old ++ after)) at piece else before ++ (old ++ after)) ≡ before ++ ((if given then piece else old) ++ after)
-unfolding if◌then◌else◌
+    → (when given then put (before ++ (old ++ after)) at piece else before ++ (old ++ after)) ≡ before ++ ((when given then piece else old) ++ after)
+unfolding when◌then◌else◌
 put-over-if true before old piece after at b e = put-over before old piece after at b e
 put-over-if false before old piece after at b e = refl
 

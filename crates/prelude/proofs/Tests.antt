@@ -8,25 +8,25 @@ use mathlib.Core.Path.{◌≡◌, refl, sym}
 use lib.Dec.{eqb}
 use borrow.Author.Rules.{rules}
 use borrow.Author.Tests.{lt-ltb, le-ltb, le-leb, lt-leb, eq-eqb, ne_eqb, eqb-true, eqb-false, not-true, not-false}
-use Rattle.prelude.specs.Choice.{if◌then◌else◌}
+use Rattle.prelude.specs.Choice.{when◌then◌else◌}
 
-pub if-true : {A : Type 0} (t : Bool) (a b : A) → t ≡ true → (if t then a else b) ≡ a
-unfolding if◌then◌else◌
+pub if-true : {A : Type 0} (t : Bool) (a b : A) → t ≡ true → (when t then a else b) ≡ a
+unfolding when◌then◌else◌
 if-true t a b h = rw h
 
-pub if-false : {A : Type 0} (t : Bool) (a b : A) → t ≡ false → (if t then a else b) ≡ b
-unfolding if◌then◌else◌
+pub if-false : {A : Type 0} (t : Bool) (a b : A) → t ≡ false → (when t then a else b) ≡ b
+unfolding when◌then◌else◌
 if-false t a b h = rw h
 
 -- two choices by one test are equal where each is, as far as its test says so
-pub if-congruence : {A : Type 0} (t : Bool) (a b c d : A) → (t ≡ true → a ≡ c) → (t ≡ false → b ≡ d) → (if t then a else b) ≡ (if t then c else d)
-unfolding if◌then◌else◌
+pub if-congruence : {A : Type 0} (t : Bool) (a b c d : A) → (t ≡ true → a ≡ c) → (t ≡ false → b ≡ d) → (when t then a else b) ≡ (when t then c else d)
+unfolding when◌then◌else◌
 if-congruence true a b c d p q = p refl
 if-congruence false a b c d p q = q refl
 
 -- what holds of both choices, each where its test says so, holds of the choice
-pub if-cases : {A : Type 0} (P : A → Type 0) (t : Bool) (a b : A) → (t ≡ true → P a) → (t ≡ false → P b) → P (if t then a else b)
-unfolding if◌then◌else◌
+pub if-cases : {A : Type 0} (P : A → Type 0) (t : Bool) (a b : A) → (t ≡ true → P a) → (t ≡ false → P b) → P (when t then a else b)
+unfolding when◌then◌else◌
 if-cases P true a b p q = p refl
 if-cases P false a b p q = q refl
 
@@ -35,24 +35,24 @@ true-unless-false true h = refl
 true-unless-false false h = absurd (h refl)
 
 -- the parts of a test, where the whole holds
-pub if-not-first : (t u : Bool) → (if t then false else u) ≡ true → t ≡ false
-unfolding if◌then◌else◌
+pub if-not-first : (t u : Bool) → (when t then false else u) ≡ true → t ≡ false
+unfolding when◌then◌else◌
 if-not-first true u h = sym h
 if-not-first false u h = refl
 
-pub if-not-second : (t u : Bool) → (if t then false else u) ≡ true → u ≡ true
-unfolding if◌then◌else◌
+pub if-not-second : (t u : Bool) → (when t then false else u) ≡ true → u ≡ true
+unfolding when◌then◌else◌
 if-not-second true true h = refl
 if-not-second true false h = h
 if-not-second false u h = h
 
-pub if-first : (t u : Bool) → (if t then u else false) ≡ true → t ≡ true
-unfolding if◌then◌else◌
+pub if-first : (t u : Bool) → (when t then u else false) ≡ true → t ≡ true
+unfolding when◌then◌else◌
 if-first true u h = refl
 if-first false u h = h
 
-pub if-second : (t u : Bool) → (if t then u else false) ≡ true → u ≡ true
-unfolding if◌then◌else◌
+pub if-second : (t u : Bool) → (when t then u else false) ≡ true → u ≡ true
+unfolding when◌then◌else◌
 if-second true u h = h
 if-second false true h = refl
 if-second false false h = h

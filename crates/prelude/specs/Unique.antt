@@ -15,7 +15,7 @@ module _ (n : ℕ) (ps : List (ParamKind n)) (r : ResultKind n) where
       → allows κs a r₂ (at_exit (ended_of n ps r) κs a w₂)
       → (r₁ ≡ r₂) × (w₁ ≡ w₂)
 
-  -- where a slice is returned, the two start at one place and have the same bytes: what is not settled is the name by which proofs tell references apart
+  -- where a slice is returned, the two start at one place and have the same bytes
   abbrev pub OneSlice : ((κs : Lfts n) → (res_t r κs).Denot → Bor (List ℕ)) → Out n ps r → Type 0
   OneSlice slice allows =
       (κs : Lfts n) (a : Dens κs ps) (r₁ r₂ : (res_t r κs).Denot) (w₁ w₂ : Lasts (ended_of n ps r) κs a)

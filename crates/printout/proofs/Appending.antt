@@ -1,14 +1,19 @@
 -- Pieces put one behind the other.
 -- Assumes nothing.
-use Prim.Native.Nat.{ℕ, ◌+◌, ◌-◌, ◌≤◌}
+use Prim.Native.Nat.{ℕ, ◌+◌, ◌≤◌}
 use mathlib.Core.List.{List, ◌++◌, append_assoc}
 use mathlib.Core.Path.{◌≡◌, sym, ap, subst, ◌∙◌}
 use native.Mathlib.Omega.{arith}
 use lib.ListN.{length, take, drop, length-append}
-use lib.Seq.{take_at, length-take-le}
+use lib.Seq.{take_at, length-take-le, drop-drop}
+use borrow.Rule.Slice.PartMut.{put_mid}
 use Rattle.prelude.specs.Parts.{put}
-use Rattle.prelude.proofs.Lists.{copied-into-tail}
 use Rattle.printout.specs.Appending.{Appends, name_of, max_name}
+
+-- a piece copied over the part of a text that is as long
+copied-over-part : (text piece copy : List ℕ) (at n : ℕ) → n ≡ length piece → copy ≡ piece → put_mid at n text copy ≡ put text at piece
+unfolding put
+copied-over-part text piece copy at n h e = rw (h, e, drop-drop (length piece) at text)
 
 pub put-appends : (text piece : List ℕ) (at : ℕ) → at + length piece ≤ length text → Appends at (length piece) (at + length piece) text (put text at piece) piece
 unfolding put
@@ -20,13 +25,12 @@ put-appends text piece at room =
       content = rw (← append_assoc (take at text) piece (drop (at + length piece) text)) (take_at (take at text ++ piece) (drop (at + length piece) text) (at + length piece) all);
     }
 
--- what a copy into the tail leaves
-pub copy-appends : (text piece tail : List ℕ) (at : ℕ) → at + length piece ≤ length text
-    → tail ≡ take (length piece) piece ++ drop (length piece) (take (length text - at) (drop at text))
-    → Appends at (length piece) (at + length piece) text (take at text ++ (tail ++ drop (length text - at) (drop at text))) piece
-copy-appends text piece tail at room copied =
+-- what a copy over a part as long leaves
+pub copy-appends : (text piece copy : List ℕ) (at n : ℕ) → at + length piece ≤ length text → n ≡ length piece → copy ≡ piece
+    → Appends at (length piece) (at + length piece) text (put_mid at n text copy) piece
+copy-appends text piece copy at n room h e =
     subst (λ (after : List ℕ). Appends at (length piece) (at + length piece) text after piece)
-    (sym (copied-into-tail text piece tail at room copied)) (put-appends text piece at room)
+    (sym (copied-over-part text piece copy at n h e)) (put-appends text piece at room)
 
 -- one piece and then another, with room for both
 pub then-appends : {at first middle second end : ℕ} {before between after piece next : List ℕ} (most : ℕ)

@@ -2,7 +2,7 @@
 use Rattle.std.specs.Prelude.{ℕ, zero, suc, ◌/◌, ◌%◌, List, [], ◌∷◌, ◌++◌, ltb, length, drop}
 use Prim.Native.String.{String}
 use Rattle.io.specs.Digits.{hex_digit_ascii}
-use Rattle.prelude.specs.Choice.{if◌then◌else◌}
+use Rattle.prelude.specs.Choice.{when◌then◌else◌}
 use Rattle.state.specs.declared.Account.{Account}
 use Rattle.state.specs.declared.Beside.{Beside}
 use Rattle.state.specs.Account.{sent, superseded, flushed, broken, over, short, linkdown, aborted, badlength, packets_in, fragments_in, bytes_in}
@@ -12,7 +12,7 @@ use Rattle.prelude.specs.Ascii.{ascii}
 -- a number of at most so many digits in decimal, with no zeros in front (manual 9.4)
 unfoldable pub decimal_in : ℕ → ℕ → List ℕ
 decimal_in zero n = []
-decimal_in (suc places) n = if ltb n 10 then hex_digit_ascii n ∷ [] else decimal_in places (n / 10) ++ (hex_digit_ascii (n % 10) ∷ [])
+decimal_in (suc places) n = when ltb n 10 then hex_digit_ascii n ∷ [] else decimal_in places (n / 10) ++ (hex_digit_ascii (n % 10) ∷ [])
 
 -- as many as a number of 64 bits has at most (manual 8.2)
 abbrev pub max_digits : ℕ
@@ -52,7 +52,7 @@ fate_lines (fate ∷ rest) grid = line_of (ascii fate.0) (cells_of fate.1 grid) 
 
 -- one packet is open where it has a fragment (manual 3.1, 9.4)
 unfoldable pub open_packets : ℕ → ℕ
-open_packets open_fragments = if ltb 0 open_fragments then 1 else 0
+open_packets open_fragments = when ltb 0 open_fragments then 1 else 0
 
 -- the lines of the numbers beside the grid (manual 8.5)
 unfoldable pub count_lines : Beside → List ℕ
@@ -81,8 +81,8 @@ written size out = record { size = size; out = out }
 
 -- a text at the start of a buffer, or nothing where it does not fit (manual 9.4)
 unfoldable pub shown : List ℕ → List ℕ → Written
-shown text out = if ltb (length out) (length text) then written 0 out else written (length text) (text ++ drop (length text) out)
+shown text out = when ltb (length out) (length text) then written 0 out else written (length text) (text ++ drop (length text) out)
 
 -- nothing too where the account is not sound (manual 9.4, 8.7)
 unfoldable pub printed : Account → List ℕ → Written
-printed a out = if account_sound a then shown (printout a) out else written 0 out
+printed a out = when account_sound a then shown (printout a) out else written 0 out

@@ -1,4 +1,6 @@
 // The printout of an account, as lines of text.
+#![tactic(auto)]
+
 ghost use Rattle.std.specs.Prelude.{◌∷◌, [], ◌≡◌, ◌+◌, ◌≤◌, ◌<◌, length};
 ghost use Rattle.io.specs.Counts.{IsPrefixLen};
 ghost use Rattle.state.specs.Account.{row_count};
@@ -15,6 +17,7 @@ const MAX_DIGITS: usize = 20;
 
 // Prints the account at the start of out and answers how many bytes that took, at most MAX_PRINTOUT.
 // Answers 0 and writes nothing where out has fewer, or where the account is not sound.
+#[tactic(auto, using(prelude::proofs::Tests::tests), unfolding(crate::specs::Printout::printed))]
 pub fn print(account: Account, out: &mut [u8]) -> usize
     ensures { written result out.new ≡ printed account out.old }
 {
@@ -28,13 +31,15 @@ pub fn print(account: Account, out: &mut [u8]) -> usize
 
 // Copies the text to the start of out and answers how many bytes that took. Answers 0 and writes
 // nothing where out has fewer.
+#[tactic(auto, using(prelude::proofs::Tests::tests), unfolding(crate::specs::Printout::shown))]
 pub fn show(text: &[u8], out: &mut [u8]) -> usize
     ensures { written result out.new ≡ shown text.now out.old }
 {
     if out.len() < text.len() {
         return 0;
     }
-    bytes::copy(text, out)
+    out[..text.len()].copy_from_slice(text);
+    text.len()
 }
 
 // Puts the printout at the start of the text and answers where it ends. So does each `put_` with its
@@ -116,6 +121,7 @@ fn put_counts(text: &mut [u8], at: usize, beside: Beside) -> usize
 }
 
 // How many packets are open: one, if it has a fragment.
+#[tactic(auto, using(prelude::proofs::Tests::tests), unfolding(crate::specs::Printout::open_packets))]
 fn open_packets(fragments: u64) -> u64
     ensures { result ≡ open_packets fragments }
 {
@@ -160,6 +166,6 @@ fn put(text: &mut [u8], at: usize, piece: &[u8]) -> usize
     requires { at + length piece.now ≤ length text.old }
     ensures { Appends at (length piece.now) result text.old text.new piece.now }
 {
-    bytes::copy(piece, &mut text[at..]);
+    text[at..at + piece.len()].copy_from_slice(piece);
     at + piece.len()
 }

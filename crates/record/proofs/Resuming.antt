@@ -10,7 +10,7 @@ use lib.Dec.{eqb, ltb}
 use lib.ListN.{length, take, drop, length-append}
 use lib.Seq.{length-take-le, take-append-le}
 use borrow.Author.Tests.{ltb-false, le-ltb}
-use Rattle.prelude.specs.Choice.{if◌then◌else◌}
+use Rattle.prelude.specs.Choice.{when◌then◌else◌}
 use Rattle.prelude.proofs.Tests.{if-true, if-false}
 use Rattle.record.specs.Records.{Records, none, one, records_after, records_in}
 use Rattle.record.specs.Transaction.{Transaction, transaction}
@@ -19,11 +19,11 @@ use Rattle.record.proofs.Records.{bad-link}
 -- records and then more, unless a bad link byte ends them
 abbrev pub and_then : Records → Records → Records
 and_then s t =
-    if s.bad_link then s else
+    when s.bad_link then s else
     record { transactions = s.transactions ++ t.transactions; used = s.used + t.used; bad_link = t.bad_link }
 
 nothing_then : (t : Records) → and_then (none false) t ≡ t
-unfolding if◌then◌else◌
+unfolding when◌then◌else◌
 nothing_then t = ap (λ (n : ℕ). record { transactions = t.transactions; used = n; bad_link = t.bad_link }) (zero-add t.used)
 
 one_then : (x : Transaction) (s t : Records) → and_then (one x s) t ≡ one x (and_then s t)

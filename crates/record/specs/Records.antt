@@ -1,6 +1,6 @@
 -- The records of a journal, as they are written and read (manual 9.2).
 use Rattle.std.specs.Prelude.{ℕ, zero, suc, ◌+◌, ◌-◌, Bool, true, false, List, [], ◌∷◌, ◌++◌, eqb, ltb, length, get_or, take}
-use Rattle.prelude.specs.Choice.{if◌then◌else◌}
+use Rattle.prelude.specs.Choice.{when◌then◌else◌}
 use Rattle.record.specs.declared.Found.{Found}
 use Rattle.record.specs.declared.Found.TheVariants as found
 use Rattle.record.specs.Transaction.{Transaction, transaction}
@@ -25,11 +25,11 @@ head_size = 3
 -- how it is read: what stands at a place of some bytes, taken as a record; the link byte is judged as soon as it is there (manual 9.3)
 unfoldable pub found_at : List ℕ → ℕ → Found
 found_at bytes at =
-    if ltb (length bytes) at then found.Cut else
-    if ltb (length bytes - at) 2 then found.Cut else
-    if ltb 1 (get_or bytes (at + 1) 0) then found.BadLink else
-    if ltb (length bytes - at) head_size then found.Cut else
-    if ltb (length bytes - at - head_size) (get_or bytes (at + 2) 0) then found.Cut else
+    when ltb (length bytes) at then found.Cut else
+    when ltb (length bytes - at) 2 then found.Cut else
+    when ltb 1 (get_or bytes (at + 1) 0) then found.BadLink else
+    when ltb (length bytes - at) head_size then found.Cut else
+    when ltb (length bytes - at - head_size) (get_or bytes (at + 2) 0) then found.Cut else
     found.Whole (get_or bytes at 0) (eqb (get_or bytes (at + 1) 0) 1) (at + head_size) (at + head_size + get_or bytes (at + 2) 0)
 
 -- the whole records that some bytes begin with, how many bytes they are, and whether a bad link byte comes next (manual 9.2, 9.3)
@@ -57,8 +57,8 @@ records_after zero [] = none false
 records_after zero (command ∷ []) = none false
 records_after zero (command ∷ link ∷ []) = none (ltb 1 link)
 records_after zero (command ∷ link ∷ size ∷ rest) =
-    if ltb 1 link then none true else
-    if ltb (length rest) size then none false else
+    when ltb 1 link then none true else
+    when ltb (length rest) size then none false else
     one (transaction command (take size rest) (eqb link 1)) (records_after size rest)
 
 -- of all the bytes (manual 9.2)

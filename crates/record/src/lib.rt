@@ -1,11 +1,13 @@
 // The records of a journal.
+#![tactic(auto)]
+
 ghost use Rattle.std.specs.Prelude.{◌≡◌};
 ghost use Rattle.record.specs.Records.{found_at};
 
 // The command, the link and the length, before the data bytes.
 const HEAD_SIZE: usize = 3;
 
-#[derive(Drop)]
+#[derive(Clone, Copy)]
 pub enum Found {
     // Fewer bytes than the record has, or none at all.
     Cut,
@@ -21,6 +23,7 @@ pub enum Found {
 }
 
 // What stands at a place of the bytes, taken as a record.
+#[tactic(auto, using(prelude::proofs::Tests::tests), unfolding(crate::specs::Records::found_at))]
 pub fn find_at(bytes: &[u8], at: usize) -> Found
     ensures { result ≡ found_at bytes.now at }
 {

@@ -2,23 +2,37 @@
 -- Assumes nothing.
 use Prim.Native.Nat.{ℕ, ◌+◌, ◌≤◌, ◌<◌}
 use mathlib.Core.Bool.{Bool, true, false}
-use mathlib.Core.Path.{◌≡◌, refl, sym, ap, ◌∙◌}
+use mathlib.Core.Path.{◌≡◌, refl, sym, ◌∙◌}
 use native.Mathlib.Omega.{arith}
-use lib.Dec.{eqb}
+use lib.Dec.{eqb, ltb}
 use lib.ListN.{get_or}
-use borrow.Author.Tests.{eqb-true, eqb-false}
+use borrow.Author.Tests.{ltb-true, ltb-false, eq-eqb, ne_eqb, eqb-true, eqb-false}
 use Rattle.prelude.specs.Bits.{bits, is_set}
-use Rattle.prelude.specs.Choice.{if◌then◌else◌}
+use Rattle.prelude.specs.Choice.{when◌then◌else◌}
 use Rattle.prelude.proofs.Bits.{bits-add}
-use Rattle.prelude.proofs.Tests.{if-true, if-congruence, if-cases, true-unless-false, tests}
+use Rattle.prelude.proofs.Tests.{if-true, if-false, if-congruence, if-cases, true-unless-false, tests}
 use Rattle.setlink.specs.declared.Decision.{Decision}
 use Rattle.setlink.specs.declared.Media.{Media}
 use Rattle.setlink.specs.declared.Media.TheVariants.{Copper, Fibre}
 use Rattle.setlink.specs.declared.Pair.{Pair}
-use Rattle.setlink.specs.Word.{speed10, speed100, speed1000, speed10g, half_duplex, full_duplex, no_speed, speeds, duplexes, pairs, takes, fits, any_fits}
-use Rattle.setlink.specs.Decide.{no_reason, invalid_parameter, host_conflict, media_conflict, parameter_conflict, speed_conflict, negotiated_reason, forced_reason, parameter_reason, reason_before_media, media_reason, media_reason_on_fibre, reason, decision_for}
-use Rattle.setlink.specs.Copper.{reason_by_all_checks, LeftOutOnCopper}
+use Rattle.setlink.specs.Word.{speed10, speed100, speed1000, speed10g, half_duplex, full_duplex, no_speed, speeds, pairs, takes, fits, any_fits}
+use Rattle.setlink.specs.Decide.{no_reason, invalid_parameter, host_conflict, media_conflict, parameter_conflict, speed_conflict, negotiated_reason, forced_reason, parameter_reason, reason_before_media, media_reason, media_reason_on_fibre, reason, decided}
+use Rattle.setlink.specs.Copper.{reason_on_fibre_alone, LeftOutOnCopper}
 use Rattle.setlink.proofs.Pairs.{no_pair, none-fits-at}
+
+-- where a test refuses, for a reason, what comes after it is not asked
+after-test : (t : Bool) (why : ℕ) → eqb why no_reason ≡ false → (x y m : ℕ) → x ≡ (when eqb y no_reason then m else y)
+    → (when t then why else x) ≡ (when eqb (when t then why else y) no_reason then m else (when t then why else y))
+unfolding when◌then◌else◌
+after-test true why some x y m e = sym (if-false _ _ _ some)
+after-test false why some x y m e = e
+
+-- a reason is one above 0
+by-number : (why m : ℕ) → (when ltb 0 why then why else m) ≡ (when eqb why no_reason then m else why)
+by-number why m =
+    if-cases (λ (x : ℕ). x ≡ (when eqb why no_reason then m else why)) _ _ _
+    (λ some. sym (if-false _ _ _ (ne_eqb why no_reason (λ none. absurd (omega (arith, ltb-true 0 why some))))))
+    (λ none. sym (if-true _ _ _ (eq-eqb why no_reason (omega (arith, ltb-false 0 why none)))))
 
 -- the bits of three speeds and of a duplex that is selected, where none of the speeds goes with it
 no-speed-left : (a b c : ℕ) {duplex : ℕ} → 0 < a + b + c → duplex ≡ 1 → a + duplex ≤ 1 → b + duplex ≤ 1 → c + duplex ≤ 1 → ⊥
@@ -30,7 +44,7 @@ module _ (word : ℕ) where
 
   -- of a pair that does not fit, the word lacks the speed or the duplex, since copper takes every pair
   lacks-one : (pair : Pair) → fits Copper word pair ≡ false → bits pair.speed 1 word + bits pair.duplex 1 word ≤ 1
-  unfolding fits takes if◌then◌else◌
+  unfolding fits takes when◌then◌else◌
   lacks-one pair =
       if-cases (λ (t : Bool). t ≡ false → bits pair.speed 1 word + bits pair.duplex 1 word ≤ 1) (is_set pair.speed word) _ _
       (λ _ e. omega (arith, eqb-false))
@@ -90,26 +104,31 @@ module _ (word : ℕ) where
         (λ _. if-cases LeavesNothing _ _ _ (λ _. refused invalid_parameter refl refl)
         (λ some. if-cases LeavesNothing _ _ _ (λ _. negotiated-leaves-nothing) (λ _. forced-leaves-nothing some)))))
 
-    no-conflict-on-copper : reason_by_all_checks word host_present Copper ≡ media_conflict → ⊥
-    unfolding reason_by_all_checks media_reason
-    no-conflict-on-copper =
+    -- the reason, by the checks before the medium's and by that
+    by-parts : (media : Media) → reason word host_present media ≡ (when eqb (reason_before_media word host_present) no_reason then media_reason media word else reason_before_media word host_present)
+    unfolding reason reason_before_media media_reason
+    by-parts media = after-test host_present _ refl _ _ _ (after-test _ _ refl _ _ _ (after-test _ _ refl _ _ _ (after-test _ _ refl _ _ _ (by-number (parameter_reason word) _))))
+
+    no-conflict-on-copper : reason word host_present Copper ≡ media_conflict → ⊥
+    unfolding media_reason
+    no-conflict-on-copper conflict =
         if-cases (λ (why : ℕ). why ≡ media_conflict → ⊥) _ _ _
         (λ none e. eqb-false no_reason media_conflict refl (sym (if-true _ _ _ (checks-leave-nothing.pair_fits (eqb-true _ _ none))) ∙ e))
-        (λ _. checks-leave-nothing.no-conflict)
+        (λ _. checks-leave-nothing.no-conflict) (sym (by-parts Copper) ∙ conflict)
 
-    reason-unchanged : (media : Media) → reason word host_present media ≡ reason_by_all_checks word host_present media
-    unfolding reason reason_by_all_checks media_reason_on_fibre media_reason
-    reason-unchanged Copper = if-congruence _ _ _ _ _ (λ none. search (tests, checks-leave-nothing.pair_fits (eqb-true _ _ none))) (λ _. refl)
-    reason-unchanged Fibre = refl
+    reason-unchanged : (media : Media) → reason_on_fibre_alone word host_present media ≡ reason word host_present media
+    unfolding reason_on_fibre_alone media_reason_on_fibre media_reason
+    reason-unchanged Copper = rw (by-parts Copper) (if-congruence _ _ _ _ _ (λ none. search (tests, checks-leave-nothing.pair_fits (eqb-true _ _ none))) (λ _. refl))
+    reason-unchanged Fibre = sym (by-parts Fibre)
 
-reason-told : (in_force word why : ℕ) → (decision_for in_force word why).reason ≡ why
-unfolding decision_for
-reason-told in_force word why = if-cases (λ (d : Decision). d.reason ≡ why) _ _ _ (λ none. sym (eqb-true why no_reason none)) (λ _. refl)
+reason-told : (in_force word : ℕ) (host_present : Bool) (media : Media) → (decided in_force word host_present media).reason ≡ reason word host_present media
+unfolding decided
+reason-told in_force word host_present media = if-cases (λ (d : Decision). d.reason ≡ reason word host_present media) _ _ _ (λ none. sym (eqb-true _ no_reason none)) (λ _. refl)
 
 pub left-out-on-copper : LeftOutOnCopper
 left-out-on-copper =
     record {
       pair_selected = λ word host_present. (checks-leave-nothing word host_present).pair_fits;
-      no_media_conflict = λ in_force word host_present e. no-conflict-on-copper word host_present (sym (reason-told in_force word _) ∙ e);
-      nothing_changes = λ in_force word host_present media. ap (decision_for in_force word) (reason-unchanged word host_present media);
+      no_media_conflict = λ in_force word host_present e. no-conflict-on-copper word host_present (sym (reason-told in_force word host_present Copper) ∙ e);
+      nothing_changes = reason-unchanged;
     }

@@ -1,7 +1,7 @@
 -- The decision on Set Link: its checks, one after the other (manual 7.3).
 use Rattle.std.specs.Prelude.{ℕ, ◌/◌, ◌^◌, Bool, eqb, ltb}
 use Rattle.prelude.specs.Bits.{bits, is_set}
-use Rattle.prelude.specs.Choice.{if◌then◌else◌}
+use Rattle.prelude.specs.Choice.{when◌then◌else◌}
 use Rattle.setlink.specs.declared.Media.{Media}
 use Rattle.setlink.specs.declared.Media.TheVariants.{Copper, Fibre}
 use Rattle.setlink.specs.declared.Decision.{Decision}
@@ -33,61 +33,62 @@ parameter_conflict = 0x0903
 abbrev pub speed_conflict : ℕ
 speed_conflict = 0x0905
 
--- check 3: auto-negotiation needs a pair that copper takes, whatever the medium (manual 7.2, 7.3)
+-- check 3: auto-negotiation wants a pair that copper takes, whatever the medium (manual 7.2, 7.3)
 unfoldable pub negotiated_reason : ℕ → ℕ
-negotiated_reason word = if any_fits Copper word pairs then no_reason else invalid_parameter
+negotiated_reason word = when any_fits Copper word pairs then no_reason else invalid_parameter
 
--- check 4: a forced link needs one speed and one duplex, no half duplex from 1000 up, and not 10G (manual 7.3)
+-- check 4: a forced link wants one speed, one duplex, no half duplex from 1000 up, and not 10G (manual 7.3)
 unfoldable pub forced_reason : ℕ → ℕ
 forced_reason word =
-    if ltb 1 (speeds word) then speed_conflict else
-    if eqb (duplexes word) 0 then invalid_parameter else
-    if ltb 1 (duplexes word) then invalid_parameter else
-    if is_set half_duplex word then
-    (if is_set speed1000 word then parameter_conflict else
-    if is_set speed10g word then parameter_conflict else
+    when ltb 1 (speeds word) then speed_conflict else
+    when eqb (duplexes word) 0 then invalid_parameter else
+    when ltb 1 (duplexes word) then invalid_parameter else
+    when is_set half_duplex word then
+    (when is_set speed1000 word then parameter_conflict else
+    when is_set speed10g word then parameter_conflict else
     no_reason)
     else
-    if is_set speed10g word then invalid_parameter else
+    when is_set speed10g word then invalid_parameter else
     no_reason
 
 -- by whether the link is negotiated or forced (manual 7.1, 7.3)
 unfoldable pub parameter_reason : ℕ → ℕ
-parameter_reason word = if is_set auto_negotiation word then negotiated_reason word else forced_reason word
+parameter_reason word = when is_set auto_negotiation word then negotiated_reason word else forced_reason word
 
--- checks 1 to 4, which do not read the medium: why they refuse a word, or no reason. A word has 32 bits, so that its quotient by 2 ^ 12 is the number in bits 12 to 31 (manual 7.1, 7.3)
+-- why a word is refused, or no reason: checks 1 to 5. A word has 32 bits, so that bits 12 to 31 are what its division by 2 ^ 12 leaves (manual 7.1, 7.3)
+unfoldable pub reason : ℕ → Bool → Media → ℕ
+reason word host_present media =
+    when host_present then host_conflict else
+    when ltb 0 (bits 5 3 word) then invalid_parameter else
+    when ltb 0 (word / 2 ^ 12) then invalid_parameter else
+    when no_speed word then invalid_parameter else
+    when ltb 0 (parameter_reason word) then parameter_reason word else
+    when any_fits media word pairs then no_reason else
+    media_conflict
+
+-- checks 1 to 4, which do not read the medium: why they refuse a word, or no reason (manual 7.1, 7.3)
 unfoldable pub reason_before_media : ℕ → Bool → ℕ
 reason_before_media word host_present =
-    if host_present then host_conflict else
-    if ltb 0 (bits 5 3 word) then invalid_parameter else
-    if ltb 0 (word / 2 ^ 12) then invalid_parameter else
-    if no_speed word then invalid_parameter else
+    when host_present then host_conflict else
+    when ltb 0 (bits 5 3 word) then invalid_parameter else
+    when ltb 0 (word / 2 ^ 12) then invalid_parameter else
+    when no_speed word then invalid_parameter else
     parameter_reason word
 
 -- check 5: a word that selects no pair that the medium takes is refused (manual 7.3)
 unfoldable pub media_reason : Media → ℕ → ℕ
-media_reason media word = if any_fits media word pairs then no_reason else media_conflict
+media_reason media word = when any_fits media word pairs then no_reason else media_conflict
 
 -- check 5 where it is made, on fibre alone: on copper it refuses no word that passed the others, as Copper.antt states (manual 7.5)
 unfoldable pub media_reason_on_fibre : Media → ℕ → ℕ
 media_reason_on_fibre Copper word = no_reason
 media_reason_on_fibre Fibre word = media_reason Fibre word
 
--- why a word is refused, or no reason (manual 7.3, 7.5)
-unfoldable pub reason : ℕ → Bool → Media → ℕ
-reason word host_present media =
-    if eqb (reason_before_media word host_present) no_reason then media_reason_on_fibre media word else
-    reason_before_media word host_present
-
--- a word that there is no reason to refuse comes into force, and a refusal keeps the word in force (manual 7.4)
-unfoldable pub decision_for : (in_force word why : ℕ) → Decision
-decision_for in_force word why =
-    if eqb why no_reason then record { response = completed; reason = no_reason; in_force = word } else
-    record { response = failed; reason = why; in_force = in_force }
-
--- the decision (manual 7.3, 7.4)
-abbrev pub decided : ℕ → ℕ → Bool → Media → Decision
-decided in_force word host_present media = decision_for in_force word (reason word host_present media)
+-- a word that passes all checks comes into force, and a refusal keeps the word in force (manual 7.4)
+unfoldable pub decided : ℕ → ℕ → Bool → Media → Decision
+decided in_force word host_present media =
+    when eqb (reason word host_present media) no_reason then record { response = completed; reason = no_reason; in_force = word } else
+    record { response = failed; reason = reason word host_present media; in_force = in_force }
 
 -- the word in force before the first Set Link (manual 7.4)
 abbrev pub fresh_word : ℕ

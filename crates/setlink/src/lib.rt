@@ -1,11 +1,13 @@
 // The Set Link decision of the Intel I210 (data sheet, 10.6.2.1), with the response and reason
 // codes of DMTF DSP0222. Its five checks are those of manual 7.3.
+#![tactic(auto, using(prelude::proofs::Tests::tests), unfolding(crate::specs::Word::takes, crate::specs::Word::fits, crate::specs::Word::any_fits, crate::specs::Decide::forced_reason, crate::specs::Decide::parameter_reason, crate::specs::Decide::negotiated_reason, crate::specs::Decide::reason_before_media, crate::specs::Decide::media_reason_on_fibre, crate::specs::Decide::media_reason, crate::specs::Decide::reason, crate::specs::Decide::decided))]
+
 ghost use Rattle.std.specs.Prelude.{◌≡◌, ◌<◌};
 ghost use Rattle.setlink.specs.Word.{pairs, takes, fits, any_fits};
 ghost use Rattle.setlink.specs.Decide.{forced_reason, parameter_reason, reason_before_media, media_reason_on_fibre, reason, decided};
 
 // What the link runs over.
-#[derive(Drop)]
+#[derive(Clone, Copy)]
 pub enum Media {
     Copper,
     Fibre,
@@ -14,7 +16,7 @@ pub enum Media {
 // What Set Link is answered, with a response and a reason code of DSP0222, and the word in force
 // from then on.
 #[repr(C)]
-#[derive(Drop)]
+#[derive(Clone, Copy)]
 pub struct Decision {
     pub response: u16,
     pub reason: u16,
@@ -53,7 +55,7 @@ const FULL_DUPLEX: u32 = 9;
 
 // A speed and a duplex, each by its bit in the word, and whether fibre takes the pair. Copper
 // takes every pair of the table.
-#[derive(Drop)]
+#[derive(Clone, Copy)]
 struct Pair {
     speed: u32,
     duplex: u32,

@@ -10,7 +10,7 @@ use lib.Dec.{eqb}
 use lib.ListN.{length, get_or, drop, set, get_or-append}
 use lib.Seq.{get_or-take, get_or-drop, get_or-append-add, get_or-set_same, get_or-set_other}
 use borrow.Author.Tests.{eqb-true, eqb-false}
-use Rattle.prelude.specs.Choice.{if◌then◌else◌}
+use Rattle.prelude.specs.Choice.{when◌then◌else◌}
 use Rattle.prelude.specs.Parts.{part}
 use Rattle.prelude.proofs.Tests.{if-cases}
 use Rattle.settings.specs.declared.enable.Enabled.{Enabled}
@@ -32,8 +32,8 @@ in-part : (at n k : ℕ) (bytes : List ℕ) → k < n → get_or (part at n byte
 in-part at n k bytes l = get_or-take n (drop at bytes) k 0 l ∙ get_or-drop at bytes k 0
 
 -- a byte of one of two lists
-chosen : (given : Bool) (xs ys : List ℕ) (k x y : ℕ) → get_or xs k 0 ≡ x → get_or ys k 0 ≡ y → get_or (if given then xs else ys) k 0 ≡ (if given then x else y)
-unfolding if◌then◌else◌
+chosen : (given : Bool) (xs ys : List ℕ) (k x y : ℕ) → get_or xs k 0 ≡ x → get_or ys k 0 ≡ y → get_or (when given then xs else ys) k 0 ≡ (when given then x else y)
+unfolding when◌then◌else◌
 chosen true xs ys k x y p q = p
 chosen false xs ys k x y p q = q
 

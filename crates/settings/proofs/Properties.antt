@@ -11,7 +11,7 @@ use lib.Seq.{drop-set-lt}
 use lib.ListN.{set, length, get_or, drop, length-append, length-drop}
 use borrow.Author.Tests.{le-ltb, ltb-true, ltb-false, eqb-true, eqb-false}
 use Rattle.prelude.specs.Bits.{is_set}
-use Rattle.prelude.specs.Choice.{if◌then◌else◌, ◌or◌}
+use Rattle.prelude.specs.Choice.{when◌then◌else◌, ◌or◌}
 use Rattle.prelude.proofs.Lists.{length_part, drop_past}
 use Rattle.prelude.proofs.Tests.{if-true, if-false, if-cases}
 use Rattle.settings.specs.declared.enable.Enabled.{Enabled}
@@ -31,14 +31,14 @@ sound-if bytes s =
     ∙ (if-true _ _ _ s.control-is-allowed ∙ (if-false _ _ _ (le-ltb _ _ s.kept-is-bits) ∙ s.mac-is-kept))
 
 kept-bits-max : (mac address : Bool) → kept_bits mac address ≤ 3
-unfolding if◌then◌else◌
+unfolding when◌then◌else◌
 kept-bits-max true true = omega arith
 kept-bits-max true false = omega arith
 kept-bits-max false true = omega arith
 kept-bits-max false false = omega arith
 
 mac-bit : (mac address : Bool) → is_set 0 (kept_bits mac address) ≡ mac
-unfolding if◌then◌else◌
+unfolding when◌then◌else◌
 mac-bit true true = refl
 mac-bit true false = refl
 mac-bit false true = refl
@@ -50,7 +50,7 @@ unfolding has_its_mac
 given-mac-is-kept control mac_kept address_kept =
     rw (mac-bit (has_dedicated_mac control or mac_kept) address_kept) (asked (has_dedicated_mac control))
   where
-    asked : (d : Bool) → (if d then (d or mac_kept) else true) ≡ true
+    asked : (d : Bool) → (when d then (d or mac_kept) else true) ≡ true
     asked true = if-true _ _ _ refl ∙ if-true _ _ _ refl
     asked false = if-false _ _ _ refl
 
@@ -168,7 +168,7 @@ every-fresh settings =
     fresh-sized = record { mac = refl; ipv4 = refl; unread = refl }
 
     fresh-allowed : allowed 0x40 ≡ true
-    fresh-allowed = unfold allowed if◌then◌else◌ in refl
+    fresh-allowed = unfold allowed when◌then◌else◌ in refl
 
     fresh-has-its-mac : has_its_mac 0x40 (kept_bits false false) ≡ true
-    fresh-has-its-mac = unfold has_its_mac if◌then◌else◌ in refl
+    fresh-has-its-mac = unfold has_its_mac when◌then◌else◌ in refl

@@ -9,8 +9,9 @@ use native.Mathlib.Omega.{arith}
 use lib.Dec.{eqb}
 use lib.ListN.{length, get_or, set, take, drop, take-append-drop, length-append, replicate}
 use lib.Seq.{drop-cons, drop-drop}
+use borrow.Rule.Slice.PartMut.{put_mid}
 use Rattle.prelude.specs.Bits.{is_set}
-use Rattle.prelude.specs.Choice.{if◌then◌else◌, ◌or◌}
+use Rattle.prelude.specs.Choice.{when◌then◌else◌, ◌or◌}
 use Rattle.prelude.specs.Parts.{part, put}
 use Rattle.prelude.proofs.Lists.{length_part, put-over-if}
 use Rattle.settings.specs.Layout.{size, settings_in, with_settings, fresh_settings, kept_bits, has_dedicated_mac, responds_to_arp}
@@ -18,15 +19,20 @@ use Rattle.settings.specs.Enable.{short_form, long_form}
 
 -- the byte of kept bits, from its bits
 pub kept-bits-recoded : (k : ℕ) → k ≤ 3 → kept_bits (is_set 0 k) (is_set 1 k) ≡ k
-unfolding if◌then◌else◌
+unfolding when◌then◌else◌
 kept-bits-recoded zero h = refl
 kept-bits-recoded (suc zero) h = refl
 kept-bits-recoded (suc (suc zero)) h = refl
 kept-bits-recoded (suc (suc (suc zero))) h = refl
 kept-bits-recoded (suc (suc (suc (suc k)))) h = absurd (omega arith)
 
+-- a piece copied over the part of a slice that is as long
+pub copied-over-part : (bytes piece copy : List ℕ) (at n : ℕ) → n ≡ length piece → copy ≡ piece → put_mid at n bytes copy ≡ put bytes at piece
+unfolding put
+copied-over-part bytes piece copy at n h e = rw (h, e, drop-drop (length piece) at bytes)
+
 pub fresh-written : (bytes : List ℕ) → 0x40 ∷ replicate 14 0 ++ drop size bytes ≡ with_settings fresh_settings bytes
-unfolding with_settings if◌then◌else◌
+unfolding with_settings when◌then◌else◌
 fresh-written bytes = refl
 
 -- the parts of a list one after the other
@@ -46,23 +52,23 @@ module _ (bytes : List ℕ) (room : size ≤ length bytes) (bits : get_or bytes 
   short-form-written control = ap (λ (l : List ℕ). set l 0 control) (sym settings-recoded)
 
 -- a bit of the kept byte after the long form: 1 where the address is given, else as it was
-kept-bit-recoded : (given : Bool) (bit weight : ℕ) → bit ≤ 1 → weight * (if given then 1 else bit) ≡ (if given or eqb bit 1 then weight else 0)
-unfolding if◌then◌else◌
+kept-bit-recoded : (given : Bool) (bit weight : ℕ) → bit ≤ 1 → weight * (when given then 1 else bit) ≡ (when given or eqb bit 1 then weight else 0)
+unfolding when◌then◌else◌
 kept-bit-recoded true bit weight h = omega arith
 kept-bit-recoded false zero weight h = omega arith
 kept-bit-recoded false (suc zero) weight h = omega arith
 kept-bit-recoded false (suc (suc bit)) weight h = absurd (omega arith)
 
 kept-bits-written : (mac ipv4 : Bool) (k : ℕ) → k ≤ 3
-    → (if mac then 1 else k % 2) + 2 * (if ipv4 then 1 else k / 2) ≡ kept_bits (mac or is_set 0 k) (ipv4 or is_set 1 k)
+    → (when mac then 1 else k % 2) + 2 * (when ipv4 then 1 else k / 2) ≡ kept_bits (mac or is_set 0 k) (ipv4 or is_set 1 k)
 kept-bits-written mac ipv4 k h =
     let second : k / 2 % 2 ≡ k / 2 = omega arith in
     let m : _ = kept-bit-recoded mac (k % 2) 1 (omega arith) in
     let i : _ = kept-bit-recoded ipv4 (k / 2) 2 (omega arith) in
     rw (div-one k, second, ← m, ← i) (omega arith)
 
-pub length-chosen : (given : Bool) (xs ys : List ℕ) (n : ℕ) → length xs ≡ n → length ys ≡ n → length (if given then xs else ys) ≡ n
-unfolding if◌then◌else◌
+pub length-chosen : (given : Bool) (xs ys : List ℕ) (n : ℕ) → length xs ≡ n → length ys ≡ n → length (when given then xs else ys) ≡ n
+unfolding when◌then◌else◌
 length-chosen true xs ys n x y = x
 length-chosen false xs ys n x y = y
 
@@ -71,13 +77,13 @@ module _ (control kept : ℕ) (gives_mac gives_ipv4 : Bool) (mac new_mac ipv4 ne
     (mac-is : length mac ≡ 6) (new-mac-is : length new_mac ≡ 6) (ipv4-is : length ipv4 ≡ 4) (new-ipv4-is : length new_ipv4 ≡ 4)
     (unread-is : length unread ≡ length new_unread) where
   pieces-written : (bytes : List ℕ) → bytes ≡ control ∷ kept ∷ mac ++ (ipv4 ++ (unread ++ rest))
-      → (let with_mac : List ℕ = if gives_mac then put bytes 2 new_mac else bytes in
-      let with_ipv4 : List ℕ = if gives_ipv4 then put with_mac 8 new_ipv4 else with_mac in
-      (if true then put with_ipv4 12 new_unread else with_ipv4)
-      ≡ control ∷ kept ∷ (if gives_mac then new_mac else mac) ++ ((if gives_ipv4 then new_ipv4 else ipv4) ++ ((if true then new_unread else unread) ++ rest)))
+      → (let with_mac : List ℕ = when gives_mac then put bytes 2 new_mac else bytes in
+      let with_ipv4 : List ℕ = when gives_ipv4 then put with_mac 8 new_ipv4 else with_mac in
+      (when true then put with_ipv4 12 new_unread else with_ipv4)
+      ≡ control ∷ kept ∷ (when gives_mac then new_mac else mac) ++ ((when gives_ipv4 then new_ipv4 else ipv4) ++ ((when true then new_unread else unread) ++ rest)))
   pieces-written bytes e =
-      let mac' : List ℕ = if gives_mac then new_mac else mac in
-      let ipv4' : List ℕ = if gives_ipv4 then new_ipv4 else ipv4 in
+      let mac' : List ℕ = when gives_mac then new_mac else mac in
+      let ipv4' : List ℕ = when gives_ipv4 then new_ipv4 else ipv4 in
       let mac'-is : length mac' ≡ 6 = length-chosen gives_mac new_mac mac 6 new-mac-is mac-is in
       let ipv4'-is : length ipv4' ≡ 4 = length-chosen gives_ipv4 new_ipv4 ipv4 4 new-ipv4-is ipv4-is in
       let head-is : length (control ∷ kept ∷ mac' ++ ipv4') ≡ 12 = simp length-append (omega arith) in
@@ -95,11 +101,11 @@ module _ (bytes form : List ℕ) (room : size ≤ length bytes) (bits : get_or b
       (let control : ℕ = get_or form 0 0 in
       let kept : ℕ = get_or bytes 1 0 in
       let with_bits : List ℕ =
-      set (set bytes 0 control) 1 ((if has_dedicated_mac control then 1 else kept % 2) + 2 * (if responds_to_arp control then 1 else kept / 2)) in
-      let with_mac : List ℕ = if has_dedicated_mac control then put with_bits 2 (part 1 6 form) else with_bits in
-      let with_ipv4 : List ℕ = if responds_to_arp control then put with_mac 8 (part 7 4 form) else with_mac in
-      (if true then put with_ipv4 12 (part 11 3 form) else with_ipv4) ≡ with_settings (long_form (settings_in bytes) form) bytes)
-  unfolding with_settings settings_in if◌then◌else◌
+      set (set bytes 0 control) 1 ((when has_dedicated_mac control then 1 else kept % 2) + 2 * (when responds_to_arp control then 1 else kept / 2)) in
+      let with_mac : List ℕ = when has_dedicated_mac control then put with_bits 2 (part 1 6 form) else with_bits in
+      let with_ipv4 : List ℕ = when responds_to_arp control then put with_mac 8 (part 7 4 form) else with_mac in
+      (when true then put with_ipv4 12 (part 11 3 form) else with_ipv4) ≡ with_settings (long_form (settings_in bytes) form) bytes)
+  unfolding with_settings settings_in when◌then◌else◌
   long-form-written =
       let control : ℕ = get_or form 0 0 in
       let kept : ℕ = kept_bits (has_dedicated_mac control or is_set 0 (get_or bytes 1 0)) (responds_to_arp control or is_set 1 (get_or bytes 1 0)) in

@@ -1,6 +1,6 @@
 -- Receive Enable: how it is judged, and the settings that it leaves (manual 5.2, 5.5, 5.6).
 use Rattle.std.specs.Prelude.{ℕ, List, eqb, ltb, length, get_or}
-use Rattle.prelude.specs.Choice.{if◌then◌else◌, ◌or◌}
+use Rattle.prelude.specs.Choice.{when◌then◌else◌, ◌or◌}
 use Rattle.prelude.specs.Parts.{part}
 use Rattle.settings.specs.declared.enable.Enabled.{Enabled}
 use Rattle.settings.specs.declared.enable.Enabled.TheVariants.{Taken, Refused}
@@ -35,7 +35,7 @@ answered answer settings = record { answer = answer; settings = settings }
 -- fresh settings written over what stands there (manual 5.4)
 unfoldable pub freshened : List ℕ → Answered ℕ
 freshened settings =
-    if ltb (length settings) size then answered (refusal_number TooShort) settings else
+    when ltb (length settings) size then answered (refusal_number TooShort) settings else
     answered success (with_settings fresh_settings settings)
 
 -- the short form sets the control byte alone (manual 5.5)
@@ -58,23 +58,23 @@ long_form s bytes =
       control = control;
       mac_kept = has_dedicated_mac control or s.mac_kept;
       address_kept = responds_to_arp control or s.address_kept;
-      mac = if has_dedicated_mac control then part 1 mac_size bytes else s.mac;
-      ipv4 = if responds_to_arp control then part 7 ipv4_size bytes else s.ipv4;
+      mac = when has_dedicated_mac control then part 1 mac_size bytes else s.mac;
+      ipv4 = when responds_to_arp control then part 7 ipv4_size bytes else s.ipv4;
       unread = part 11 unread_size bytes;
     }
 
 -- 9 before 10, else 11 (manual 5.6)
 unfoldable pub short_form_answered : List ℕ → ℕ → Answered Enabled
 short_form_answered settings control =
-    if allowed control then
-    (if has_its_mac control (get_or settings kept_at 0) then
+    when allowed control then
+    (when has_its_mac control (get_or settings kept_at 0) then
     answered Taken (with_settings (short_form (settings_in settings) control) settings)
     else answered (Refused NoMac) settings)
     else answered (Refused BadControl) settings
 
 unfoldable pub long_form_answered : List ℕ → List ℕ → Answered Enabled
 long_form_answered settings bytes =
-    if allowed (get_or bytes 0 0) then answered Taken (with_settings (long_form (settings_in settings) bytes) settings) else
+    when allowed (get_or bytes 0 0) then answered Taken (with_settings (long_form (settings_in settings) bytes) settings) else
     answered (Refused BadControl) settings
 
 -- how many bytes each form has (manual 5.2)
@@ -87,9 +87,9 @@ long_form_size = 14
 -- 12 and 13 before 8 (manual 2.2, 5.6)
 unfoldable pub receive_enabled : List ℕ → List ℕ → Answered Enabled
 receive_enabled settings bytes =
-    if ltb (length settings) size then answered (Refused TooShort) settings else
-    if sound settings then
-    (if eqb (length bytes) short_form_size then short_form_answered settings (get_or bytes 0 0) else
-    if eqb (length bytes) long_form_size then long_form_answered settings bytes else
+    when ltb (length settings) size then answered (Refused TooShort) settings else
+    when sound settings then
+    (when eqb (length bytes) short_form_size then short_form_answered settings (get_or bytes 0 0) else
+    when eqb (length bytes) long_form_size then long_form_answered settings bytes else
     answered (Refused BadForm) settings)
     else answered (Refused NotSound) settings

@@ -1,7 +1,7 @@
 -- The receive settings: what each byte is, and when they are sound (manual 5.1, 5.3, 5.7).
 use Rattle.std.specs.Prelude.{ℕ, ◌+◌, Bool, true, false, List, ◌∷◌, ◌++◌, eqb, ltb, length, get_or, drop, replicate}
 use Rattle.prelude.specs.Bits.{bits, is_set}
-use Rattle.prelude.specs.Choice.{if◌then◌else◌}
+use Rattle.prelude.specs.Choice.{when◌then◌else◌}
 use Rattle.prelude.specs.Parts.{part}
 
 -- bits of the control byte: RCV_EN, EN_ARP_RES and CBDM (manual 5.1)
@@ -17,10 +17,10 @@ has_dedicated_mac control = is_set 7 control
 -- a control byte that is allowed (manual 5.1)
 unfoldable pub allowed : ℕ → Bool
 allowed control =
-    if is_set 6 control then
-    (if eqb (bits 4 2 control) 3 then false else
-    if receives control then true else
-    if has_dedicated_mac control then false else
+    when is_set 6 control then
+    (when eqb (bits 4 2 control) 3 then false else
+    when receives control then true else
+    when has_dedicated_mac control then false else
     true)
     else false
 
@@ -75,7 +75,7 @@ settings_in bytes =
 
 -- the byte that tells which addresses are kept (manual 5.3)
 abbrev pub kept_bits : Bool → Bool → ℕ
-kept_bits mac address = (if mac then 1 else 0) + (if address then 2 else 0)
+kept_bits mac address = (when mac then 1 else 0) + (when address then 2 else 0)
 
 -- the bytes with these settings in their first fifteen (manual 5.3)
 unfoldable pub with_settings : Settings → List ℕ → List ℕ
@@ -98,13 +98,13 @@ fresh_settings =
 
 -- a MAC is kept where the control byte asks for it (manual 5.7)
 unfoldable pub has_its_mac : ℕ → ℕ → Bool
-has_its_mac control kept = if has_dedicated_mac control then is_set 0 kept else true
+has_its_mac control kept = when has_dedicated_mac control then is_set 0 kept else true
 
 -- sound settings; too few bytes are none (manual 5.7)
 unfoldable pub sound : List ℕ → Bool
 sound bytes =
-    if ltb (length bytes) size then false else
-    if allowed (get_or bytes control_at 0) then
-    (if ltb 3 (get_or bytes kept_at 0) then false else
+    when ltb (length bytes) size then false else
+    when allowed (get_or bytes control_at 0) then
+    (when ltb 3 (get_or bytes kept_at 0) then false else
     has_its_mac (get_or bytes control_at 0) (get_or bytes kept_at 0))
     else false

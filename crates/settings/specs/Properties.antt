@@ -1,7 +1,7 @@
 -- What the operations on the settings keep and write, whatever the bytes (manual 5.4, 5.5, 5.6).
 use Rattle.std.specs.Prelude.{ℕ, ◌+◌, ◌≤◌, ◌<◌, true, List, ◌⊎◌, ◌≡◌, length, get_or, drop}
 use Rattle.prelude.specs.Bits.{is_set}
-use Rattle.prelude.specs.Choice.{if◌then◌else◌, ◌or◌}
+use Rattle.prelude.specs.Choice.{when◌then◌else◌, ◌or◌}
 use Rattle.settings.specs.declared.enable.Enabled.{Enabled}
 use Rattle.settings.specs.declared.enable.Enabled.TheVariants.{Taken}
 use Rattle.settings.specs.declared.enable.Refusal.TheVariants.{TooShort}
@@ -39,10 +39,10 @@ pub record WritesLong (before form after : List ℕ) : Type 0 where
       ≡ kept_bits (has_dedicated_mac (get_or form 0 0) or is_set 0 (get_or before kept_at 0)) (responds_to_arp (get_or form 0 0) or is_set 1 (get_or before kept_at 0))
   pub mac :
       (k : ℕ) → k < mac_size
-      → get_or after (mac_at + k) 0 ≡ (if has_dedicated_mac (get_or form 0 0) then get_or form (1 + k) 0 else get_or before (mac_at + k) 0)
+      → get_or after (mac_at + k) 0 ≡ (when has_dedicated_mac (get_or form 0 0) then get_or form (1 + k) 0 else get_or before (mac_at + k) 0)
   pub ipv4 :
       (k : ℕ) → k < ipv4_size
-      → get_or after (ipv4_at + k) 0 ≡ (if responds_to_arp (get_or form 0 0) then get_or form (7 + k) 0 else get_or before (ipv4_at + k) 0)
+      → get_or after (ipv4_at + k) 0 ≡ (when responds_to_arp (get_or form 0 0) then get_or form (7 + k) 0 else get_or before (ipv4_at + k) 0)
   pub unread : (k : ℕ) → k < unread_size → get_or after (unread_at + k) 0 ≡ get_or form (11 + k) 0
   pub others : (k : ℕ) → size ≤ k → get_or after k 0 ≡ get_or before k 0
 

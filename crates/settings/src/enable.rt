@@ -1,7 +1,7 @@
 // Receive Enable: the short form sets the control byte, the long form also the addresses.
 ghost use Rattle.std.specs.Prelude.{◌≡◌, ◌+◌, ◌≤◌, length, get_or};
 ghost use Rattle.prelude.specs.Parts.{put};
-ghost use Rattle.prelude.specs.Choice.{if◌then◌else◌};
+ghost use Rattle.prelude.specs.Choice.{when◌then◌else◌};
 ghost use Rattle.settings.specs.Layout.{size, kept_at, settings_in, with_settings};
 ghost use Rattle.settings.specs.Enable.{number_of, refusal_number, answered, long_form_size, long_form, short_form_answered, long_form_answered, receive_enabled};
 
@@ -11,7 +11,7 @@ use crate::{
 };
 
 // What became of a Receive Enable.
-#[derive(Drop)]
+#[derive(Clone, Copy)]
 pub enum Enabled {
     // 11
     Taken,
@@ -19,7 +19,7 @@ pub enum Enabled {
 }
 
 // Why a Receive Enable was refused, with the answer numbers.
-#[derive(Drop)]
+#[derive(Clone, Copy)]
 pub enum Refusal {
     // 12: the settings are too short.
     TooShort,
@@ -46,6 +46,7 @@ const DATA_IPV4: usize = 7;
 const DATA_UNREAD: usize = 11;
 
 // Judges a Receive Enable, and changes the settings where it is taken; a refusal changes nothing.
+#[tactic(auto, using(crate::proofs::Tests::bit_tests), unfolding(crate::specs::Enable::receive_enabled))]
 pub fn receive_enable(settings: &mut [u8], bytes: &[u8]) -> Enabled
     ensures { answered result settings.new ≡ receive_enabled settings.old bytes.now }
 {
@@ -64,6 +65,7 @@ pub fn receive_enable(settings: &mut [u8], bytes: &[u8]) -> Enabled
     Enabled::Refused(Refusal::BadForm)
 }
 
+#[tactic(auto, using(crate::proofs::Tests::bit_tests), unfolding(crate::specs::Enable::short_form_answered))]
 fn short_form(settings: &mut [u8], control: u8) -> Enabled
     requires size_in_bounds { size ≤ length settings.old }
     requires kept_at_bound { get_or settings.old kept_at 0 ≤ 3 }
@@ -79,6 +81,7 @@ fn short_form(settings: &mut [u8], control: u8) -> Enabled
     Enabled::Taken
 }
 
+#[tactic(auto, using(crate::proofs::Tests::bit_tests), unfolding(crate::specs::Enable::long_form_answered))]
 fn long_form(settings: &mut [u8], bytes: &[u8]) -> Enabled
     requires size_in_bounds { size ≤ length settings.old }
     requires kept_at_bound { get_or settings.old kept_at 0 ≤ 3 }
@@ -111,19 +114,21 @@ fn write_long_form(settings: &mut [u8], bytes: &[u8])
 }
 
 // 1 where an address is now kept, else its bit as it was.
+#[tactic(auto, using(crate::proofs::Tests::bit_tests))]
 fn kept_bit(is_given: bool, bit: u8) -> u8
     requires { bit ≤ 1 }
-    ensures { (result ≡ (if is_given then 1 else bit)) × (result ≤ 1) }
+    ensures { (result ≡ (when is_given then 1 else bit)) × (result ≤ 1) }
 {
     if is_given { 1 } else { bit }
 }
 
+#[tactic(auto, using(crate::proofs::Tests::bit_tests))]
 fn put_if(is_given: bool, settings: &mut [u8], at: usize, piece: &[u8])
     requires { at + length piece.now ≤ length settings.old }
-    ensures { settings.new ≡ (if is_given then put settings.old at piece.now else settings.old) }
+    ensures { settings.new ≡ (when is_given then put settings.old at piece.now else settings.old) }
 {
     if is_given {
-        bytes::copy(piece, &mut settings[at..]);
+        settings[at..at + piece.len()].copy_from_slice(piece);
     }
 }
 

@@ -2,6 +2,8 @@
 // (data sheet, Table 10-10) judged and applied to them.
 //
 // The settings are the first SIZE bytes of what is lent; bytes past them never change.
+#![tactic(auto)]
+
 mod enable;
 
 ghost use Rattle.std.specs.Prelude.{◌≡◌};
@@ -50,18 +52,19 @@ const FRESH: [u8; SIZE] = [0x40, 0, 0, 0, 0, 0, 0, 0, 0, 0, 0, 0, 0, 0, 0];
 
 // Writes fresh settings and answers 0, or answers 12 and changes nothing where there are fewer than
 // SIZE bytes.
+#[tactic(auto, using(crate::proofs::Tests::bit_tests), unfolding(crate::specs::Enable::freshened))]
 pub fn fresh(settings: &mut [u8]) -> u32
     ensures { answered result settings.new ≡ freshened settings.old }
 {
     if settings.len() < SIZE {
         return TOO_SHORT;
     }
-    let fresh = FRESH;
-    bytes::copy(&fresh, settings);
+    settings[..SIZE].copy_from_slice(&FRESH);
     DONE
 }
 
 // Whether there are SIZE bytes or more and they are sound settings.
+#[tactic(auto, using(crate::proofs::Tests::bit_tests), unfolding(crate::specs::Layout::sound))]
 pub fn is_sound(settings: &[u8]) -> bool
     ensures { result ≡ sound settings.now }
 {
@@ -81,6 +84,7 @@ pub fn is_sound(settings: &[u8]) -> bool
 
 // Whether a control byte is allowed: bit 6 set, a notification method that exists, and a
 // dedicated MAC address only where packets are received.
+#[tactic(auto, using(crate::proofs::Tests::bit_tests), unfolding(crate::specs::Layout::allowed))]
 pub(crate) fn is_allowed(control: u8) -> bool
     ensures { result ≡ allowed control }
 {
@@ -100,6 +104,7 @@ pub(crate) fn is_allowed(control: u8) -> bool
 }
 
 // Whether the MAC address that the control byte asks for is kept.
+#[tactic(auto, using(crate::proofs::Tests::bit_tests), unfolding(crate::specs::Layout::has_its_mac))]
 pub(crate) fn has_its_mac(control: u8, kept: u8) -> bool
     ensures { result ≡ has_its_mac control kept }
 {

@@ -10,7 +10,7 @@ use native.Mathlib.Numerals.{add-one}
 use native.Mathlib.Omega.{arith}
 use lib.Dec.{eqb}
 use borrow.Author.Tests.{le-leb, ne_eqb}
-use Rattle.prelude.specs.Choice.{if◌then◌else◌, ◌and◌}
+use Rattle.prelude.specs.Choice.{when◌then◌else◌, ◌and◌}
 use Rattle.prelude.proofs.Tests.{if-true, if-false, if-first, if-second, eqb-iff}
 use Rattle.state.specs.Account.{row_count, badlength, packets_in, fragments_in, bytes_in, all_fragments}
 use Rattle.state.specs.Sound.{row_sound, rows_sound}
@@ -21,7 +21,7 @@ abbrev pub row_sound_at : ℕ → List ℕ → Bool
 row_sound_at row grid = row_sound (packets_in row grid) (fragments_in row grid) (bytes_in row grid)
 
 pub and-false : (a b : Bool) → b ≡ false → (a and b) ≡ false
-unfolding if◌then◌else◌
+unfolding when◌then◌else◌
 and-false true b h = h
 and-false false b h = refl
 

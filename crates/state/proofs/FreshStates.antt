@@ -5,7 +5,7 @@ use mathlib.Core.Bool.{true}
 use mathlib.Core.Path.{◌≡◌, ap, ◌∙◌}
 use native.Mathlib.Omega.{arith}
 use borrow.Author.Tests.{le-leb, le-ltb, ltb-false}
-use Rattle.prelude.specs.Choice.{if◌then◌else◌}
+use Rattle.prelude.specs.Choice.{when◌then◌else◌}
 use Rattle.prelude.proofs.Tests.{if-false, if-cases}
 use Rattle.state.specs.declared.Made.{Made}
 use Rattle.state.specs.Account.{all_fragments}
@@ -19,7 +19,7 @@ made-fresh maximum least most =
     ap (λ (m : Made). m.state) (if-false _ _ _ (le-ltb maximum 1 least) ∙ if-false _ _ _ (le-ltb max_maximum maximum most))
 
 pub fresh-sound : (maximum : ℕ) → 1 ≤ maximum → maximum ≤ max_maximum → sound (fresh_state maximum) ≡ true
-unfolding sound account_sound rows_sound row_sound singles_sound open_sound sum_holds all_fragments if◌then◌else◌
+unfolding sound account_sound rows_sound row_sound singles_sound open_sound sum_holds all_fragments when◌then◌else◌
 fresh-sound maximum least most = rw (le-leb 1 maximum least, le-leb maximum max_maximum most, le-leb 0 (maximum * 0) (omega arith))
 
 pub every-fresh : EveryFresh

@@ -1,6 +1,6 @@
 -- The state around the account, and a fresh one (manual 1.2, 8.8).
 use Rattle.std.specs.Prelude.{ℕ, ◌*◌, List, ltb, replicate}
-use Rattle.prelude.specs.Choice.{if◌then◌else◌}
+use Rattle.prelude.specs.Choice.{when◌then◌else◌}
 use Rattle.state.specs.declared.Account.{Account}
 use Rattle.state.specs.declared.Beside.{Beside}
 use Rattle.state.specs.declared.Made.{Made}
@@ -37,6 +37,6 @@ bad_maximum = 16
 -- the state that is made for a maximum, or for the largest one (manual 1.2)
 unfoldable pub made : ℕ → Made
 made maximum =
-    if ltb maximum 1 then record { answer = bad_maximum; state = fresh_state max_maximum } else
-    if ltb max_maximum maximum then record { answer = bad_maximum; state = fresh_state max_maximum } else
+    when ltb maximum 1 then record { answer = bad_maximum; state = fresh_state max_maximum } else
+    when ltb max_maximum maximum then record { answer = bad_maximum; state = fresh_state max_maximum } else
     record { answer = success; state = fresh_state maximum }

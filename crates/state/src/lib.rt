@@ -1,5 +1,7 @@
 // The account of what became of every transaction, and the state around it that a caller keeps and
 // hands back.
+#![tactic(auto)]
+
 mod grid;
 mod sound;
 
@@ -11,7 +13,7 @@ pub use sound::{are_sound, is_account_sound, is_sound};
 
 // Any numbers may be handed in; is_account_sound tells those that are sound.
 #[repr(C)]
-#[derive(Drop)]
+#[derive(Clone, Copy)]
 pub struct Account {
     // Packets, fragments and bytes of each fate, in the rows SENT to BADLENGTH.
     pub grid: [u64; CELLS],
@@ -20,7 +22,7 @@ pub struct Account {
 
 // The numbers of an account beside its grid.
 #[repr(C)]
-#[derive(Drop)]
+#[derive(Clone, Copy)]
 pub struct Beside {
     // The packet that is open, if it has a fragment.
     pub open_fragments: u64,
@@ -34,7 +36,7 @@ pub struct Beside {
 
 // What a caller keeps of the translator, beside the store and the settings.
 #[repr(C)]
-#[derive(Drop)]
+#[derive(Clone, Copy)]
 pub struct State {
     pub account: Account,
     // The most data bytes of a fragment, 1 to MAX_MAXIMUM.
@@ -43,7 +45,7 @@ pub struct State {
 
 // A fresh state, and the answer: 0, or 16 with the state for MAX_MAXIMUM.
 #[repr(C)]
-#[derive(Drop)]
+#[derive(Clone, Copy)]
 pub struct Made {
     pub answer: u32,
     pub state: State,
@@ -94,6 +96,7 @@ const DONE: u32 = 0;
 const BAD_MAXIMUM: u32 = 16;
 
 // Makes a fresh state for fragments of at most `maximum` data bytes.
+#[tactic(auto, using(prelude::proofs::Tests::tests), unfolding(crate::specs::State::made))]
 pub fn fresh(maximum: u32) -> Made
     ensures { result ≡ made maximum }
 {

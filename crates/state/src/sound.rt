@@ -38,6 +38,7 @@ pub fn is_account_sound(account: Account) -> bool
 }
 
 // Whether the state of a grid, of the numbers beside it and of a maximum is sound.
+#[tactic(auto, using(prelude::proofs::Tests::tests), unfolding(crate::specs::Sound::sound))]
 pub fn are_sound(grid: &[u64; CELLS], beside: Beside, maximum: u64) -> bool
     ensures { result ≡ sound (state_of grid.now beside maximum) }
 {
@@ -78,6 +79,7 @@ fn is_grid_sound(grid: &[u64; CELLS], beside: Beside) -> bool
 }
 
 // Whether an open packet of no more fragments than an account has is sound.
+#[tactic(auto, using(prelude::proofs::Tests::tests), unfolding(crate::specs::Sound::open_sound))]
 fn is_open_sound(fragments: u64, bytes: u64) -> bool
     requires { fragments ≤ limit }
     ensures { result ≡ open_sound fragments bytes }
@@ -121,6 +123,7 @@ fn are_rows_sound(grid: &[u64; CELLS], wanted: u64) -> bool
 }
 
 // Whether a row of no more fragments than an account has is sound.
+#[tactic(auto, using(prelude::proofs::Tests::tests), unfolding(crate::specs::Sound::row_sound))]
 fn is_row_sound(packets: u64, fragments: u64, bytes: u64) -> bool
     requires { fragments ≤ limit }
     ensures { result ≡ row_sound packets fragments bytes }

@@ -9,7 +9,7 @@ use lib.Dec.{eqb, ltb}
 use lib.ListN.{length, get_or}
 use borrow.Author.Count.{below_none, below_more}
 use borrow.Author.Tests.{ltb-true, ltb-false, eqb-true, eqb-false, not-true, not-false}
-use Rattle.prelude.specs.Choice.{if◌then◌else◌}
+use Rattle.prelude.specs.Choice.{when◌then◌else◌}
 use Rattle.prelude.proofs.Tests.{if-cases}
 use Rattle.status.specs.declared.Fields.{Fields}
 use Rattle.status.specs.declared.Parsed.{Parsed}
@@ -42,7 +42,7 @@ module _ (Good : Field → Type 0) where
   -- a test in its place, before others
   at_place : (field : Field) (place : ℕ) (bad : Bool) (rest : Answer) → field_number field ≡ suc place → place < length in_order → Tests bad (Good (field_at place)) → UpTo place
       → (UpTo (place + 1) → Tells Good rest)
-      → Tells Good (if bad then NotAllowed field else rest)
+      → Tells Good (when bad then NotAllowed field else rest)
   at_place field place bad rest number within tests before after =
       if-cases (Tells Good) bad (NotAllowed field) rest
       (λ e. first-bad field place number within (tests.refuses e) before)
@@ -73,7 +73,7 @@ length-tested length =
     (λ e. record { refuses = λ d good. omega (arith, ltb-true max_length length d); passes = λ d. (ltb-false length 1 e, omega (arith, ltb-false max_length length d)) })
 
 index-tested : (matched : Bool) (index max : ℕ) → max ≡ 7 → Tests (bad_index matched index max) (GoodIndex matched index)
-unfolding bad_index if◌then◌else◌
+unfolding bad_index when◌then◌else◌
 index-tested true index max seven =
     record { refuses = λ e good. omega (arith, ltb-true max index e, good.0); passes = λ e. (omega (arith, ltb-false max index e), λ n. absurd (true≢false n)) }
 index-tested false index max seven =

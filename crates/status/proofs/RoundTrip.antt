@@ -7,7 +7,7 @@ use mathlib.Core.Path.{◌≡◌, refl, sym, ap, ◌∙◌, subst}
 use native.Mathlib.Omega.{arith}
 use lib.Dec.{eqb}
 use lib.ListN.{length, get_or, replicate}
-use Rattle.prelude.specs.Choice.{if◌then◌else◌}
+use Rattle.prelude.specs.Choice.{when◌then◌else◌}
 use Rattle.prelude.proofs.Lists.{all-elements}
 use Rattle.prelude.proofs.Tests.{if-cases}
 use Rattle.status.specs.declared.Fields.{Fields}
@@ -63,7 +63,7 @@ record MatchBit (matched : Bool) : Type 0 where
   told : eqb bit 1 ≡ matched
 
 match-bit : (matched : Bool) → MatchBit matched
-unfolding if◌then◌else◌
+unfolding when◌then◌else◌
 match-bit true = record { bit = 1; small = omega arith; weighed = λ w. omega arith; told = refl }
 match-bit false = record { bit = 0; small = omega arith; weighed = λ w. omega arith; told = refl }
 
@@ -152,7 +152,7 @@ written_is_read f tag e =
     rw (written-block f e) (λ i. record { answer = done i; fields = fields i })
 
 bit-weighed : (bit weight : ℕ) → bit ≤ 1 → match_bit (eqb bit 1) weight ≡ bit * weight
-unfolding if◌then◌else◌
+unfolding when◌then◌else◌
 bit-weighed zero weight h = omega arith
 bit-weighed (suc zero) weight h = omega arith
 bit-weighed (suc (suc bit)) weight h = absurd (omega arith)

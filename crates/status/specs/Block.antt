@@ -1,7 +1,7 @@
 -- The eight bytes of status data: the block that fields are written as, and the fields that a block is read as (manual 6).
 use Rattle.std.specs.Prelude.{ℕ, ◌+◌, ◌*◌, ◌/◌, ◌%◌, ◌^◌, Bool, false, List, [], ◌∷◌, eqb, length, get_or, replicate}
 use Rattle.prelude.specs.Bits.{bits, is_set}
-use Rattle.prelude.specs.Choice.{if◌then◌else◌}
+use Rattle.prelude.specs.Choice.{when◌then◌else◌}
 use Rattle.status.specs.declared.Fields.{Fields}
 use Rattle.status.specs.declared.Written.{Written}
 use Rattle.status.specs.declared.Parsed.{Parsed}
@@ -25,7 +25,7 @@ mng_reserved_at = 9
 
 -- a match bit, by its weight (manual 6.1)
 abbrev pub match_bit : Bool → ℕ → ℕ
-match_bit matched weight = if matched then weight else 0
+match_bit matched weight = when matched then weight else 0
 
 -- the MNG status (manual 6.1)
 unfoldable pub mng_status : Fields → ℕ
@@ -97,5 +97,5 @@ parsed_words length_word status vlan mng =
 -- the size is judged before any word (manual 6.6)
 unfoldable pub parsed : List ℕ → Parsed
 parsed b =
-    if eqb (length b) block_size then parsed_words (word_at b 0) (word_at b 2) (word_at b 4) (word_at b 6) else
+    when eqb (length b) block_size then parsed_words (word_at b 0) (word_at b 2) (word_at b 4) (word_at b 6) else
     record { answer = NotAllowed BlockSize; fields = no_fields }

@@ -1,6 +1,6 @@
 -- Which field of status data is bad first, alike for fields to write and for a block to read; the size of a block is judged before, by the reader alone (manual 6.2 to 6.6).
 use Rattle.std.specs.Prelude.{ℕ, Bool, not, eqb, ltb}
-use Rattle.prelude.specs.Choice.{if◌then◌else◌, ◌or◌}
+use Rattle.prelude.specs.Choice.{when◌then◌else◌, ◌or◌}
 use Rattle.status.specs.declared.Fields.{Fields}
 use Rattle.status.specs.declared.judge.Answer.{Answer}
 use Rattle.status.specs.declared.judge.Answer.TheVariants.{Done, NotAllowed}
@@ -45,14 +45,14 @@ bad_length word = ltb word 1 or ltb max_length word
 
 -- an index is bad above its largest where it is matched, and above 0 where it is not (manual 6.5)
 unfoldable pub bad_index : Bool → ℕ → ℕ → Bool
-bad_index matched index max = ltb (if matched then max else 0) index
+bad_index matched index max = ltb (when matched then max else 0) index
 
 -- the first bad one of fields, a packet status and the reserved bits of an MNG status; any VLAN tag is good (manual 6.4, 6.6)
 unfoldable pub judged : Fields → (status reserved : ℕ) → Answer
 judged f status reserved =
-    if bad_length f.length then NotAllowed Length else
-    if not (eqb status packet_status) then NotAllowed PacketStatus else
-    if ltb 0 reserved then NotAllowed MngReserved else
-    if bad_index f.decision_match f.decision_index max_decision_index then NotAllowed DecisionIndex else
-    if bad_index f.vlan_match f.vlan_index max_vlan_index then NotAllowed VlanIndex else
+    when bad_length f.length then NotAllowed Length else
+    when not (eqb status packet_status) then NotAllowed PacketStatus else
+    when ltb 0 reserved then NotAllowed MngReserved else
+    when bad_index f.decision_match f.decision_index max_decision_index then NotAllowed DecisionIndex else
+    when bad_index f.vlan_match f.vlan_index max_vlan_index then NotAllowed VlanIndex else
     Done

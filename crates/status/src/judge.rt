@@ -5,7 +5,7 @@ ghost use Rattle.status.specs.Judged.{field_number, number_of, bad_field_number,
 use crate::Fields;
 
 // What a writer or a reader is answered.
-#[derive(Drop)]
+#[derive(Clone, Copy)]
 pub enum Answer {
     // 0: the block is written or read.
     Done,
@@ -14,7 +14,7 @@ pub enum Answer {
 }
 
 // The fields that can be bad, in the order in which they are judged.
-#[derive(Drop)]
+#[derive(Clone, Copy)]
 pub enum Field {
     // 1: the size of a block to read.
     BlockSize,
@@ -39,6 +39,7 @@ const MAX_DECISION_INDEX: u8 = 7;
 const MAX_VLAN_INDEX: u8 = 7;
 
 // Names the first that is bad of fields, a packet status and the reserved bits of an MNG status.
+#[tactic(auto, using(prelude::proofs::Tests::tests), unfolding(crate::specs::Judged::judged))]
 pub(crate) fn judge(fields: Fields, status: u16, reserved: u16) -> Answer
     ensures { result ≡ judged fields status reserved }
 {
@@ -65,6 +66,7 @@ pub(crate) fn judge(fields: Fields, status: u16, reserved: u16) -> Answer
 }
 
 // Whether a length word is bad. With a reserved bit, 15 or 14, it is above the largest.
+#[tactic(auto, using(prelude::proofs::Tests::tests), unfolding(crate::specs::Judged::bad_length))]
 fn is_length_bad(length: u16) -> bool
     ensures { result ≡ bad_length length }
 {
@@ -75,6 +77,7 @@ fn is_length_bad(length: u16) -> bool
 }
 
 // Whether an index is above the largest that it may be, which is 0 without its match.
+#[tactic(auto, using(prelude::proofs::Tests::tests), unfolding(crate::specs::Judged::bad_index))]
 fn is_index_bad(matched: bool, index: u8, max: u8) -> bool
     ensures { result ≡ bad_index matched index max }
 {

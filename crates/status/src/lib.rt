@@ -1,5 +1,7 @@
 // The eight bytes of status data that the Intel I210 adds to a received packet (data sheet,
 // Tables 10-17 to 10-20), written and read.
+#![tactic(auto)]
+
 mod judge;
 
 ghost use Rattle.std.specs.Prelude.{◌≡◌, ◌+◌, ◌*◌, ◌≤◌};
@@ -10,7 +12,7 @@ use judge::{PACKET_STATUS, judge};
 
 // What a block holds. The length counts the packet's four check bytes.
 #[repr(C)]
-#[derive(Drop)]
+#[derive(Clone, Copy)]
 pub struct Fields {
     pub length: u16,
     pub vlan: u16,
@@ -21,14 +23,14 @@ pub struct Fields {
 }
 
 // The block, of zeros where a field is bad.
-#[derive(Drop)]
+#[derive(Clone, Copy)]
 pub struct Written {
     pub answer: Answer,
     pub block: [u8; BLOCK_SIZE],
 }
 
 // The fields, all zero where one is bad.
-#[derive(Drop)]
+#[derive(Clone, Copy)]
 pub struct Parsed {
     pub answer: Answer,
     pub fields: Fields,
@@ -55,6 +57,7 @@ const NO_FIELDS: Fields = Fields {
 };
 
 // The block for these fields.
+#[tactic(auto, using(prelude::proofs::Tests::tests), unfolding(crate::specs::Block::written, crate::specs::Block::if_done, crate::specs::Block::block))]
 pub fn write(fields: Fields) -> Written
     ensures { result ≡ written fields }
 {
@@ -82,6 +85,7 @@ pub fn write(fields: Fields) -> Written
 }
 
 // The fields of a block that write could have written.
+#[tactic(auto, using(prelude::proofs::Tests::tests), unfolding(crate::specs::Block::parsed))]
 pub fn read(block: &[u8]) -> Parsed
     ensures { result ≡ parsed block.now }
 {
@@ -98,6 +102,7 @@ pub fn read(block: &[u8]) -> Parsed
     read_words(length, status, vlan, mng)
 }
 
+#[tactic(auto, using(prelude::proofs::Tests::tests), unfolding(crate::specs::Block::parsed_words, crate::specs::Block::if_done))]
 fn read_words(length: u16, status: u16, vlan: u16, mng: u16) -> Parsed
     ensures { result ≡ parsed_words length status vlan mng }
 {
@@ -131,6 +136,7 @@ fn mng_reserved(mng: u16) -> u16
     mng / MNG_RESERVED
 }
 
+#[tactic(auto, using(prelude::proofs::Tests::tests), unfolding(crate::specs::Block::mng_status))]
 fn mng_status(fields: Fields) -> u16
     ensures { result ≡ mng_status fields }
 {
@@ -140,6 +146,7 @@ fn mng_status(fields: Fields) -> u16
         + fields.vlan_index as u16
 }
 
+#[tactic(auto, using(prelude::proofs::Tests::tests))]
 fn match_bit(matched: bool, weight: u16) -> u16
     ensures { (result ≡ match_bit matched weight) × (result ≤ weight) }
 {

@@ -8,7 +8,7 @@ use lib.Dec.{ltb}
 use lib.ListN.{length}
 use denote.Ref.{Bor}
 use borrow.Author.Tests.{ltb-false}
-use Rattle.prelude.specs.Choice.{if◌then◌else◌}
+use Rattle.prelude.specs.Choice.{when◌then◌else◌}
 use Rattle.prelude.specs.Parts.{Slice, part_of}
 use Rattle.prelude.proofs.Lists.{length_part}
 use Rattle.prelude.proofs.Tests.{if-cases}
@@ -35,13 +35,13 @@ packet store n =
 
 module _ (settings flash : Bor (List ℕ)) where
   mac : (source : Source) → part_at (part_from source mac_at 0 mac_size) settings flash ≡ shown_from source Mac settings flash
-  unfolding if◌then◌else◌ part_from
+  unfolding when◌then◌else◌ part_from
   mac Nowhere = refl
   mac Settings = refl
   mac Flash = refl
 
   ipv4 : (source : Source) → part_at (part_from source ipv4_at mac_size ipv4_size) settings flash ≡ shown_from source Ipv4 settings flash
-  unfolding if◌then◌else◌ part_from
+  unfolding when◌then◌else◌ part_from
   ipv4 Nowhere = refl
   ipv4 Settings = refl
   ipv4 Flash = refl

@@ -1,7 +1,7 @@
 -- What is told in numbers: a part is the one that the other crates show, in the same place and with the same bytes; of status data the first bad field (manual 4.4, 5.9, 6.6).
 use Rattle.std.specs.Prelude.{ℕ, List, ◌≡◌, eqb}
 use Rattle.std.specs.Borrow.{Bor}
-use Rattle.prelude.specs.Choice.{if◌then◌else◌}
+use Rattle.prelude.specs.Choice.{when◌then◌else◌}
 use Rattle.prelude.specs.Parts.{Slice, part_of}
 use Rattle.address.specs.declared.Address.TheVariants.{Mac, Ipv4}
 use Rattle.address.specs.Address.{in_force}
@@ -15,7 +15,7 @@ use Rattle.tco.specs.Status.{written_in_numbers, read_in_numbers}
 
 -- the part that the numbers tell (manual 5.9)
 abbrev pub part_at : Part → Bor (List ℕ) → Bor (List ℕ) → Slice
-part_at p settings flash = part_of p.start p.length (if eqb p.source in_flash then flash else settings)
+part_at p settings flash = part_of p.start p.length (when eqb p.source in_flash then flash else settings)
 
 -- of the store and of both addresses (manual 4.4, 5.9)
 pub record EveryPart : Type 0 where

@@ -1,8 +1,10 @@
 // What a driver links: the operations of the other crates by the names of include/tco.h, and the
 // transaction on a state where it lies. Whatever is handed in, each function answers.
+#![tactic(auto)]
+
 ghost use Rattle.std.specs.Prelude.{◌≡◌};
 ghost use Rattle.address.specs.Address.{source_of};
-ghost use Rattle.printout.specs.Printout.{written as the-written-Printout, printed};
+ghost use Rattle.printout.specs.Printout.{written as printout_written, printed};
 ghost use Rattle.record.specs.Transaction.{transaction};
 ghost use Rattle.settings.specs.Enable.{answered, freshened};
 ghost use Rattle.state.specs.State.{made};
@@ -21,7 +23,7 @@ use status::{BLOCK_SIZE, Fields};
 // A part of the settings or of Flash: its source, where it starts and its length. All is zero where
 // there is none.
 #[repr(C)]
-#[derive(Drop)]
+#[derive(Clone, Copy)]
 pub struct Part {
     pub source: u32,
     pub start: u32,
@@ -31,7 +33,7 @@ pub struct Part {
 // The block that status data is written as. `field` is the number of the first bad field, 0 where
 // none is.
 #[repr(C)]
-#[derive(Drop)]
+#[derive(Clone, Copy)]
 pub struct StatusWritten {
     pub answer: u32,
     pub field: u32,
@@ -40,7 +42,7 @@ pub struct StatusWritten {
 
 // The fields that a status block is read as, with `field` as above.
 #[repr(C)]
-#[derive(Drop)]
+#[derive(Clone, Copy)]
 pub struct StatusRead {
     pub answer: u32,
     pub field: u32,
@@ -48,7 +50,7 @@ pub struct StatusRead {
 }
 
 // A state after a transaction, and the reply.
-#[derive(Drop)]
+#[derive(Clone, Copy)]
 struct Replied {
     state: State,
     reply: Reply,
@@ -168,6 +170,7 @@ pub extern "C" fn tco_ipv4_in_force(settings: &[u8], flash: &[u8]) -> Part
 }
 
 // An address in force of `size` bytes, which start at `in_settings` or at `in_flash` in its source.
+#[tactic(auto, unfolding(crate::specs::Part::part_from))]
 fn in_force(
     address: Address,
     settings: &[u8],
@@ -228,6 +231,7 @@ pub extern "C" fn tco_read_status(block: &[u8]) -> StatusRead
 }
 
 // Judges a Set Link word over a medium, COPPER or FIBRE; over any other it is an invalid parameter.
+#[tactic(auto, using(prelude::proofs::Tests::tests), unfolding(crate::specs::Link::decided_over))]
 #[unsafe(no_mangle)]
 pub extern "C" fn tco_set_link(in_force: u32, word: u32, host_present: bool, media: u32) -> Decision
     ensures { result ≡ decided_over in_force word host_present media }
@@ -248,7 +252,7 @@ pub extern "C" fn tco_set_link(in_force: u32, word: u32, host_present: bool, med
 // Prints the account at the start of `out` and answers how many bytes that took.
 #[unsafe(no_mangle)]
 pub extern "C" fn tco_print_account(account: Account, out: &mut [u8]) -> usize
-    ensures { the-written-Printout result out.new ≡ printed account out.old }
+    ensures { printout_written result out.new ≡ printed account out.old }
 {
     printout::print(account, out)
 }

@@ -10,7 +10,7 @@ use lib.Dec.{ltb}
 use lib.ListN.{length, get_or, set, length-set}
 use lib.Seq.{get_or-set_same, get_or-set_other}
 use borrow.Author.Tests.{eqb-true, eq-eqb, le-leb, leb-true, lt-ltb, ltb-true}
-use Rattle.prelude.specs.Choice.{if◌then◌else◌}
+use Rattle.prelude.specs.Choice.{when◌then◌else◌}
 use Rattle.prelude.proofs.Lists.{elements, all-elements}
 use Rattle.prelude.proofs.Tests.{if-true, if-false, if-cases, if-first, if-second}
 use Rattle.prelude.proofs.Tests.{same_or_not}
@@ -122,7 +122,7 @@ module _ (grid : List ℕ) (row packets fragments bytes : ℕ) where
         by_row (inr n) = inr (added-elsewhere other n)
 
     added-fragments : row < row_count → all_fragments row_count added ≡ all_fragments row_count grid + fragments
-    unfolding add_to all_fragments if◌then◌else◌
+    unfolding add_to all_fragments when◌then◌else◌
     added-fragments l =
         subst (λ (g : List ℕ). all_fragments row_count (add_to row packets fragments bytes g) ≡ all_fragments row_count g + fragments) (all-elements 27 grid formed)
         (nine (λ (r : ℕ). all_fragments row_count (add_to r packets fragments bytes (elements 27 0 grid)) ≡ all_fragments row_count (elements 27 0 grid) + fragments)

@@ -10,7 +10,7 @@ use lib.Dec.{eqb, leb, ltb}
 use lib.ListN.{length}
 use borrow.Author.Tests.{ltb-true, ltb-false}
 use Rattle.prelude.specs.After.{After, after}
-use Rattle.prelude.specs.Choice.{if◌then◌else◌}
+use Rattle.prelude.specs.Choice.{when◌then◌else◌}
 use Rattle.prelude.proofs.Tests.{if-cases, if-true, if-false}
 use Rattle.packet.specs.Store.{max_packet, filled}
 use Rattle.settings.specs.declared.enable.Enabled.{Enabled}
@@ -102,7 +102,7 @@ counts n h = rw (if-false (leb 12 n) (leb n 14) false h)
 
 -- the refusals that are counted are answered 8 to 10
 pub counted-refusals : (r : Refusal) → is_counted (refusal_number r) ≡ true → (8 ≤ refusal_number r) × (refusal_number r ≤ 10)
-unfolding is_counted if◌then◌else◌
+unfolding is_counted when◌then◌else◌
 counted-refusals refusal.TooShort c = absurd (true≢false (sym c))
 counted-refusals refusal.NotSound c = absurd (true≢false (sym c))
 counted-refusals refusal.BadForm c = (omega arith, omega arith)
@@ -153,7 +153,7 @@ module _ (maximum f b : ℕ) (none : f ≤ 0 → b ≡ 0) (bytes store settings 
   left-of-superseded : 0 ≡ left_open (ends_in superseded f) b
   unfolding ends_in left_open
   left-of-superseded =
-      if-cases (λ (r : ℕ). 0 ≡ (if ltb r row_count then 0 else b)) (ltb 0 f) superseded no_row
+      if-cases (λ (r : ℕ). 0 ≡ (when ltb r row_count then 0 else b)) (ltb 0 f) superseded no_row
       (λ _. sym (if-true _ _ _ refl)) (λ n. sym (none (ltb-false _ _ n)) ∙ sym (if-false _ _ _ refl))
 
   module _ (first : Bool) where
@@ -162,7 +162,7 @@ module _ (maximum f b : ℕ) (none : f ≤ 0 → b ≡ 0) (bytes store settings 
     Goes d = Comes maximum f b (fragment_closes first) bytes store settings (in_store d settings)
 
     bad-length-comes : Goes (stored (bad_length f) store)
-    unfolding bad_length is_counted if◌then◌else◌
+    unfolding bad_length is_counted when◌then◌else◌
     bad-length-comes = record {
       is-counted = refl;
       ends-are = refl;
@@ -175,7 +175,7 @@ module _ (maximum f b : ℕ) (none : f ≤ 0 → b ≡ 0) (bytes store settings 
     }
 
     module _ (least : 1 ≤ length bytes) (most : length bytes ≤ maximum) (at ends : ℕ)
-        (ends_as : ends ≡ ends_in (if first then superseded else no_row) f) (at-is : at ≡ left_open ends b) where
+        (ends_as : ends ≡ ends_in (when first then superseded else no_row) f) (at-is : at ≡ left_open ends b) where
       -- the outcomes of a fragment of an allowed length
       takes : (o : Outcome) (after : List ℕ) → is_counted (number_of o) ≡ true → eqb (number_of o) 3 ≡ false → counted_bytes o (length bytes) ≡ length bytes
           → after ≡ store_after o at bytes store → Goes (stored (judged o ends (length bytes)) after)
@@ -219,7 +219,7 @@ module _ (maximum f b : ℕ) (none : f ≤ 0 → b ≡ 0) (bytes store settings 
         if-cases P first _ _
         (λ e. joined-comes least most 0 (ends_in superseded f) (ap (λ (row : ℕ). ends_in row f) (sym (if-true _ _ _ e))) left-of-superseded last link_up)
         (λ n.
-        let ends_as : no_row ≡ ends_in (if first then superseded else no_row) f = ends-in-none ∙ ap (λ (row : ℕ). ends_in row f) (sym (if-false _ _ _ n)) in
+        let ends_as : no_row ≡ ends_in (when first then superseded else no_row) f = ends-in-none ∙ ap (λ (row : ℕ). ends_in row f) (sym (if-false _ _ _ n)) in
         if-cases P _ _ _
         (λ _. joined-comes least most b no_row ends_as left-of-none last link_up)
         (λ _. takes least most b no_row ends_as left-of-none (outcome.Discarded cause.Aborted) store (counts _ refl) refl refl refl))))
@@ -243,11 +243,11 @@ module _ (maximum f b : ℕ) (none : f ≤ 0 → b ≡ 0) (bytes store settings 
   }
 
   unknown-comes : (command : ℕ) → Comes maximum f b (closes_in class.Unknown command) bytes store settings (after (unknown f command) store settings)
-  unfolding unknown closes_in if◌then◌else◌
+  unfolding unknown closes_in when◌then◌else◌
   unknown-comes command = by_flags (has_both_flags command)
     where
-      by_flags : (t : Bool) → Comes maximum f b (λ (o : Outcome). if t then flushed else no_row) bytes store settings
-          (after (if t then judged outcome.Unknown (ends_in flushed f) 0 else judged outcome.Unknown no_row 0) store settings)
+      by_flags : (t : Bool) → Comes maximum f b (λ (o : Outcome). when t then flushed else no_row) bytes store settings
+          (after (when t then judged outcome.Unknown (ends_in flushed f) 0 else judged outcome.Unknown no_row 0) store settings)
       by_flags true = command-comes _ outcome.Unknown _ settings (counts 7 refl) (omega arith) refl refl refl (same-settings 7)
       by_flags false = command-comes _ outcome.Unknown _ settings (counts 7 refl) (omega arith) refl refl ends-in-none (same-settings 7)
 

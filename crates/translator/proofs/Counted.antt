@@ -9,7 +9,7 @@ use lib.Dec.{ltb}
 use lib.ListN.{length}
 use borrow.Author.Tests.{ltb-true, ltb-false}
 use Rattle.prelude.specs.After.{After}
-use Rattle.prelude.specs.Choice.{if◌then◌else◌}
+use Rattle.prelude.specs.Choice.{when◌then◌else◌}
 use Rattle.prelude.proofs.Tests.{if-cases, if-true}
 use Rattle.record.specs.Transaction.{Transaction}
 use Rattle.state.specs.declared.Account.{Account}
@@ -69,10 +69,10 @@ ends-closes row f closes =
     if-cases (λ (ends : ℕ). ends < row_count → Closes ends × (1 ≤ f)) (ltb 0 f) row no_row (λ was-open-then l. (closes l, ltb-true _ _ was-open-then)) (λ _ l. absurd (omega arith))
 
 left_open-open : (maximum ends f b : ℕ) → Open maximum f b → Open maximum (left_open ends f) (left_open ends b)
-unfolding left_open if◌then◌else◌
+unfolding left_open when◌then◌else◌
 left_open-open maximum ends f b p = by-test (ltb ends row_count)
   where
-    by-test : (t : Bool) → Open maximum (if t then 0 else f) (if t then 0 else b)
+    by-test : (t : Bool) → Open maximum (when t then 0 else f) (when t then 0 else b)
     by-test true = omega arith
     by-test false = p
 
@@ -196,7 +196,7 @@ module _ (s : State) (store settings : List ℕ) (t : Transaction) (d : After Ju
 
   pub ends-closed : ends ≡ closed_row before t.command o
   unfolding closed_row ends_in
-  ends-closed = w.ends-are ∙ ap (λ (row : ℕ). if is_open before then row else no_row) (sym (if-true _ _ _ w.is-counted))
+  ends-closed = w.ends-are ∙ ap (λ (row : ℕ). when is_open before then row else no_row) (sym (if-true _ _ _ w.is-counted))
 
   closed-apart : ends < row_count → Closes ends × (1 ≤ before.beside.open_fragments)
   closed-apart =
@@ -207,10 +207,10 @@ module _ (s : State) (store settings : List ℕ) (t : Transaction) (d : After Ju
   own-not-ends l e = let c : Closes ends = (closed-apart l).0 in tallies.sound.apart ends c.from c.to e
 
   pub left_is : packet_left before t.command o ≡ packet_of (left_open ends before.beside.open_fragments) (left_open ends before.beside.open_bytes)
-  unfolding packet_left left_open if◌then◌else◌
+  unfolding packet_left left_open when◌then◌else◌
   left_is = rw (← ends-closed) (by-test (ltb ends row_count))
     where
-      by-test : (c : Bool) → (if c then no_packet else open_packet before) ≡ packet_of (if c then 0 else before.beside.open_fragments) (if c then 0 else before.beside.open_bytes)
+      by-test : (c : Bool) → (when c then no_packet else open_packet before) ≡ packet_of (when c then 0 else before.beside.open_fragments) (when c then 0 else before.beside.open_bytes)
       by-test true = refl
       by-test false = refl
 

@@ -25,7 +25,7 @@ use Rattle.translator.specs.declared.fragment.Sequence.{Sequence}
 use Rattle.translator.specs.declared.fragment.Sequence.TheVariants as sequence
 use Rattle.translator.specs.declared.judged.Judged.{Judged}
 use Rattle.translator.specs.Counting.{left_open, cause_tally, tally_of, judged_tally}
-use Rattle.translator.specs.Judge.{sequence_of, fragment}
+use Rattle.translator.specs.Judge.{sequence_of}
 use Rattle.translator.specs.Rows.{BesideFits, TallyFits, AccountFits, most}
 
 pub sent-length-within : (total : ℕ) → total ≤ max_packet → sent_length total ≤ max_packet

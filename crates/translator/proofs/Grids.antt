@@ -7,7 +7,7 @@ use mathlib.Core.Path.{◌≡◌, refl, ap, subst, ◌∙◌}
 use lib.Dec.{ltb}
 use lib.ListN.{length}
 use borrow.Author.Tests.{ltb-true}
-use Rattle.prelude.specs.Choice.{if◌then◌else◌}
+use Rattle.prelude.specs.Choice.{when◌then◌else◌}
 use Rattle.prelude.proofs.Lists.{elements, all-elements}
 use Rattle.state.specs.declared.Beside.{Beside}
 use Rattle.state.specs.Account.{row_count, columns}
@@ -21,13 +21,13 @@ use Rattle.translator.proofs.Added.{added-formed}
 -- adding to a row, as rows and as one list
 module _ (grid : List ℕ) (row packets fragments bytes : ℕ) (formed : length grid ≡ row_count * columns) where
   at_row : row < row_count → in_rows (rows_of grid) row packets fragments bytes ≡ rows_of (add_to row packets fragments bytes grid)
-  unfolding in_rows add_to if◌then◌else◌
+  unfolding in_rows add_to when◌then◌else◌
   at_row =
       subst (λ (g : List ℕ). row < row_count → in_rows (rows_of grid) row packets fragments bytes ≡ rows_of (add_to row packets fragments bytes g)) (all-elements (row_count * columns) grid formed)
       (nine (λ (r : ℕ). in_rows (rows_of grid) r packets fragments bytes ≡ rows_of (add_to r packets fragments bytes (elements (row_count * columns) 0 grid))) refl refl refl refl refl refl refl refl refl row)
 
   pub rows-added : in_rows (rows_of grid) row packets fragments bytes ≡ rows_of (add_to row packets fragments bytes grid)
-  unfolding in_rows add_to if◌then◌else◌
+  unfolding in_rows add_to when◌then◌else◌
   rows-added = by-test (ltb row row_count) refl
     where
       by-test : (t : Bool) → ltb row row_count ≡ t → in_rows (rows_of grid) row packets fragments bytes ≡ rows_of (add_to row packets fragments bytes grid)

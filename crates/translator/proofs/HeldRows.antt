@@ -5,7 +5,7 @@ use mathlib.Core.List.{List}
 use mathlib.Core.Path.{◌≡◌, refl, sym, ap, ◌∙◌}
 use native.Mathlib.Omega.{arith}
 use Rattle.prelude.specs.After.{after}
-use Rattle.prelude.specs.Choice.{if◌then◌else◌}
+use Rattle.prelude.specs.Choice.{when◌then◌else◌}
 use Rattle.record.specs.Transaction.{Transaction}
 use Rattle.state.specs.declared.Beside.{Beside}
 use Rattle.state.specs.Account.{limit}
@@ -32,7 +32,7 @@ module _ (r : Readiness) (beside : Beside) (maximum : ℕ) (store settings : Lis
   pub rejected-steps : (o : Outcome)
       → ((grid : List ℕ) → r ≡ readiness_of (state_of grid beside maximum) store settings → transacted (state_of grid beside maximum) store settings t ≡ after (with (state_of grid beside maximum) o) store settings)
       → Steps r beside maximum store settings t (rejected_step o beside) store settings
-  unfolding grid_after add_to if◌then◌else◌
+  unfolding grid_after add_to when◌then◌else◌
   rejected-steps o unchanged = record {
     steps = λ grid e. sym (unchanged grid e);
     fits = λ rows _. record { own = λ l. absurd (omega arith); ended = λ l. absurd (omega arith) };

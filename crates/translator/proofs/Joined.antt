@@ -9,7 +9,7 @@ use native.Mathlib.Omega.{arith}
 use lib.Dec.{ltb}
 use lib.ListN.{length, get_or}
 use borrow.Author.Tests.{lt-ltb, le-ltb, ltb-false}
-use Rattle.prelude.specs.Choice.{if◌then◌else◌}
+use Rattle.prelude.specs.Choice.{when◌then◌else◌}
 use Rattle.prelude.specs.Parts.{part, put, ChangesOnly}
 use Rattle.prelude.proofs.Lists.{unchanged, put-changes, part-put}
 use Rattle.prelude.proofs.Tests.{if-true, if-false, if-cases}
@@ -21,30 +21,30 @@ use Rattle.translator.specs.Joining.{Stored, stored, completed_of, filled_if, co
 
 -- the store with a fragment at `at`: past 1536 it is not written
 unfoldable pub written : List ℕ → ℕ → List ℕ → List ℕ
-written store at fragment = if ltb max_packet (at + length fragment) then store else put store at fragment
+written store at fragment = when ltb max_packet (at + length fragment) then store else put store at fragment
 
 -- what becomes of a packet of any total that its Last completes
 unfoldable pub last_of : ℕ → Bool → Outcome
-last_of total link_up = if ltb max_packet total then outcome.Discarded cause.Over else completed_of total link_up
+last_of total link_up = when ltb max_packet total then outcome.Discarded cause.Over else completed_of total link_up
 
 -- a Last, or another fragment
 abbrev pub by_last : ℕ → List ℕ → Bool → Bool → List ℕ → Stored Outcome
 by_last at fragment last link_up store =
-    if last then stored (last_of (at + length fragment) link_up) (filled_if (last_of (at + length fragment) link_up) (at + length fragment) (written store at fragment))
+    when last then stored (last_of (at + length fragment) link_up) (filled_if (last_of (at + length fragment) link_up) (at + length fragment) (written store at fragment))
     else stored outcome.Joined (written store at fragment)
 
 pub joined-by-last : (at : ℕ) (fragment : List ℕ) (last link_up : Bool) (store : List ℕ) → joined at fragment last link_up store ≡ by_last at fragment last link_up store
-unfolding joined completed written last_of filled_if if◌then◌else◌
+unfolding joined completed written last_of filled_if when◌then◌else◌
 joined-by-last at fragment last link_up store = by_tests (ltb max_packet total) last
   where
     total : ℕ
     total = at + length fragment
 
     by_tests : (past last : Bool)
-        → (if past then stored (if last then outcome.Discarded cause.Over else outcome.Joined) store else if last then completed total link_up (put store at fragment) else stored outcome.Joined (put store at fragment))
-        ≡ (let o : Outcome = if past then outcome.Discarded cause.Over else completed_of total link_up in
-        let left : List ℕ = if past then store else put store at fragment in
-        if last then stored o (filled_if o total left) else stored outcome.Joined left)
+        → (when past then stored (when last then outcome.Discarded cause.Over else outcome.Joined) store else when last then completed total link_up (put store at fragment) else stored outcome.Joined (put store at fragment))
+        ≡ (let o : Outcome = when past then outcome.Discarded cause.Over else completed_of total link_up in
+        let left : List ℕ = when past then store else put store at fragment in
+        when last then stored o (filled_if o total left) else stored outcome.Joined left)
     by_tests true true = refl
     by_tests true false = refl
     by_tests false true = refl

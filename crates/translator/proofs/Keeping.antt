@@ -9,7 +9,7 @@ use native.Mathlib.Omega.{arith}
 use lib.ListN.{length}
 use borrow.Author.Tests.{le-ltb, eqb-true}
 use Rattle.prelude.specs.After.{After}
-use Rattle.prelude.specs.Choice.{if◌then◌else◌}
+use Rattle.prelude.specs.Choice.{when◌then◌else◌}
 use Rattle.prelude.specs.Parts.{part, ChangesOnly}
 use Rattle.prelude.proofs.Lists.{part-before-put}
 use Rattle.prelude.proofs.Tests.{if-false, if-cases}
@@ -65,7 +65,7 @@ module _ (at : ℕ) (bytes store : List ℕ) (room : max_packet ≤ length store
   too-much-to-fill past = if-false _ _ _ (le-ltb (at + length bytes) min_sent (omega arith)) ∙ written-too-much store bytes at past
 
   fragment-filled : (n : ℕ) → Keeps at (length bytes) (outcome.Sent n) store (filled store_left (at + length bytes))
-  unfolding if◌then◌else◌
+  unfolding when◌then◌else◌
   fragment-filled n =
       let fills : ChangesOnly (at + length bytes) min_sent store_left (filled store_left (at + length bytes)) = leaves-the-rest store_left (at + length bytes) in
       record {
@@ -78,7 +78,7 @@ module _ (at : ℕ) (bytes store : List ℕ) (room : max_packet ≤ length store
       }
 
   store_kept : (o : Outcome) → Keeps at (length bytes) o store (store_after o at bytes store)
-  unfolding if◌then◌else◌
+  unfolding when◌then◌else◌
   store_kept outcome.Joined = fragment-written outcome.Joined (λ n _. n refl)
   store_kept (outcome.Sent n) = fragment-filled n
   store_kept (outcome.Discarded cause.Aborted) = nothing_changes at (length bytes) _ store
@@ -128,7 +128,7 @@ module _ (at : ℕ) (bytes store : List ℕ) (room : max_packet ≤ length store
       filled-part (written store at bytes) at (length bytes) (omega arith) ∙ written_stands end
 
   fragment-stands : (o : Outcome) → Stands at bytes o (store_after o at bytes store)
-  unfolding if◌then◌else◌
+  unfolding when◌then◌else◌
   fragment-stands outcome.Joined = λ _. written_stands
   fragment-stands (outcome.Sent n) = λ _. sent-stands
   fragment-stands (outcome.Discarded cause.Aborted) = λ joined. absurd (true≢false (sym joined))

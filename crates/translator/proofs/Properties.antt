@@ -9,7 +9,7 @@ use native.Mathlib.Omega.{arith}
 use lib.ListN.{length}
 use borrow.Author.Tests.{eqb-true, leb-true, le-ltb}
 use Rattle.prelude.specs.After.{After}
-use Rattle.prelude.specs.Choice.{if◌then◌else◌}
+use Rattle.prelude.specs.Choice.{when◌then◌else◌}
 use Rattle.prelude.proofs.Tests.{if-cases, if-false, if-first, if-second}
 use Rattle.record.specs.Transaction.{Transaction}
 use Rattle.state.specs.declared.Account.{Account}
@@ -128,7 +128,7 @@ module _ (s : State) (store settings : List ℕ) (t : Transaction) (d : After Ju
   opens f b (p, q) = cc
 
   counted-leaves : Leaves (packet_left s.account t.command o) (length t.bytes) s.account o left
-  unfolding if◌then◌else◌
+  unfolding when◌then◌else◌
   counted-leaves =
       let own : added.row ≡ own_row o = (tallies s store settings t d r w).own in
       let c : _ = (tallies s store settings t d r w).fragments in

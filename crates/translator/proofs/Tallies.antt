@@ -4,7 +4,7 @@ use Prim.Native.Nat.{ℕ, ◌+◌, ◌*◌, ◌≤◌, ◌<◌}
 use mathlib.Core.Bool.{true, true≢false}
 use mathlib.Core.Path.{◌≡◌, refl, sym}
 use native.Mathlib.Omega.{arith}
-use Rattle.prelude.specs.Choice.{if◌then◌else◌}
+use Rattle.prelude.specs.Choice.{when◌then◌else◌}
 use Rattle.state.specs.Account.{row_count, superseded, broken, aborted, badlength}
 use Rattle.state.specs.State.{max_maximum}
 use Rattle.outcome.specs.declared.Cause.TheVariants as cause
@@ -66,7 +66,7 @@ pub record Tallies (o : Outcome) (maximum f b size : ℕ) (t : Tally) : Type 0 w
 module _ (maximum f b size : ℕ) (most : maximum ≤ max_maximum) (left : Open maximum f b) where
   pub tallied : (o : Outcome) → is_counted (number_of o) ≡ true → counted_bytes o size ≤ maximum → (number_of o ≡ 0 → 1 ≤ counted_bytes o size)
       → Tallies o maximum f b size (tally_of o f b (counted_bytes o size))
-  unfolding is_counted if◌then◌else◌
+  unfolding is_counted when◌then◌else◌
   tallied outcome.Joined c few some = record { own = refl; sound = omega (arith, some refl); commands = omega (arith, some refl); fragments = omega (arith, some refl) }
   tallied (outcome.Sent n) c few some = record { own = refl; sound = omega arith; commands = omega arith; fragments = omega arith }
   tallied (outcome.Discarded cause.Aborted) c few some = record { own = refl; sound = omega arith; commands = omega arith; fragments = omega arith }

@@ -11,7 +11,7 @@ use lib.Arith.{lt_of_le-ne}
 use lib.ListN.{length}
 use borrow.Author.Tests.{eqb-true, eqb-false, ltb-true, ltb-false, le-ltb}
 use Rattle.prelude.specs.After.{After, after}
-use Rattle.prelude.specs.Choice.{if◌then◌else◌}
+use Rattle.prelude.specs.Choice.{when◌then◌else◌}
 use Rattle.prelude.proofs.Tests.{if-true, if-false, if-cases}
 use Rattle.packet.specs.Store.{max_packet}
 use Rattle.record.specs.Transaction.{Transaction}
@@ -95,7 +95,7 @@ ComesOn s store settings t d =
     Comes s.maximum s.account.beside.open_fragments s.account.beside.open_bytes (closes_in (class_in commands t.command) t.command) t.bytes store settings d
 
 rejected-not-counted : (s : State) (store settings : List ℕ) (o : Outcome) → Rejects s store settings o → is_counted (number_of o) ≡ false
-unfolding is_counted if◌then◌else◌
+unfolding is_counted when◌then◌else◌
 rejected-not-counted s store settings _ (too_short h) = refl
 rejected-not-counted s store settings _ (not_sound a b h) = refl
 rejected-not-counted s store settings _ (full u h) = refl

@@ -1,7 +1,7 @@
 -- The classes of commands (manual 1.3, 1.4).
 use Rattle.std.specs.Prelude.{ℕ, Bool, true, false, List, [], ◌∷◌, eqb}
 use Rattle.prelude.specs.Bits.{is_set}
-use Rattle.prelude.specs.Choice.{if◌then◌else◌, ◌and◌}
+use Rattle.prelude.specs.Choice.{when◌then◌else◌, ◌and◌}
 use Rattle.translator.specs.declared.command.Class.{Class}
 use Rattle.translator.specs.declared.command.Class.TheVariants.{Fragment, Enable, Unknown}
 use Rattle.translator.specs.declared.command.Command.{Command}
@@ -19,7 +19,7 @@ commands =
 -- the class that a table gives a command; one that stands in no entry is unknown (manual 1.4)
 unfoldable pub class_in : List Command → ℕ → Class
 class_in [] command = Unknown
-class_in (entry ∷ rest) command = if eqb command entry.byte then entry.class else class_in rest command
+class_in (entry ∷ rest) command = when eqb command entry.byte then entry.class else class_in rest command
 
 -- F and L are both set (manual 1.3)
 unfoldable pub has_both_flags : ℕ → Bool

@@ -1,6 +1,6 @@
 -- How a transaction is counted (manual 8.3, 8.4, 8.5).
 use Rattle.std.specs.Prelude.{ℕ, ◌+◌, ◌*◌, List, ltb, set}
-use Rattle.prelude.specs.Choice.{if◌then◌else◌}
+use Rattle.prelude.specs.Choice.{when◌then◌else◌}
 use Rattle.state.specs.declared.Account.{Account}
 use Rattle.state.specs.declared.Beside.{Beside}
 use Rattle.state.specs.Account.{row_count, columns, no_row, sent, over, short, linkdown, aborted, badlength, packets_in, fragments_in, bytes_in, besides, account_of}
@@ -14,7 +14,7 @@ use Rattle.translator.specs.declared.judged.Judged.{Judged}
 -- so many packets, fragments and bytes more in a row, if it is one (manual 8.3)
 unfoldable pub add_to : ℕ → ℕ → ℕ → ℕ → List ℕ → List ℕ
 add_to row packets fragments bytes grid =
-    if ltb row row_count then
+    when ltb row row_count then
     set (set (set grid (row * columns) (packets_in row grid + packets))
     (row * columns + 1) (fragments_in row grid + fragments))
     (row * columns + 2) (bytes_in row grid + bytes)
@@ -63,7 +63,7 @@ tally_of outcome.Full f b size = tally no_row 0 0 0 f b 0 0
 
 -- what is left open of the packet: nothing, where it ends in a row (manual 8.4)
 unfoldable pub left_open : ℕ → ℕ → ℕ
-left_open ends n = if ltb ends row_count then 0 else n
+left_open ends n = when ltb ends row_count then 0 else n
 
 -- behind what is left open (manual 8.3, 8.4)
 abbrev pub judged_tally : Judged → Beside → Tally

@@ -1,6 +1,6 @@
 -- A fragment joins its packet: one test of the new total decides whether it is written, and whether a Last finds its packet too long (manual 3.6, 4.1, 4.2, 4.3).
 use Rattle.std.specs.Prelude.{ℕ, ◌+◌, Bool, List, ltb, length}
-use Rattle.prelude.specs.Choice.{if◌then◌else◌}
+use Rattle.prelude.specs.Choice.{when◌then◌else◌}
 use Rattle.prelude.specs.Parts.{put}
 use Rattle.packet.specs.Store.{max_packet, min_packet, filled, sent_length}
 use Rattle.outcome.specs.declared.Cause.TheVariants as cause
@@ -18,8 +18,8 @@ stored result store = record { result = result; store = store }
 -- a packet of at most 1536 bytes that its Last completes: 5 before 6, else it is sent (manual 3.6)
 unfoldable pub completed_of : ℕ → Bool → Outcome
 completed_of total link_up =
-    if ltb total min_packet then outcome.Discarded cause.Short else
-    if link_up then outcome.Sent (sent_length total) else
+    when ltb total min_packet then outcome.Discarded cause.Short else
+    when link_up then outcome.Sent (sent_length total) else
     outcome.Discarded cause.LinkDown
 
 -- a packet that is sent is filled up, a discarded one is not (manual 4.3)
@@ -41,8 +41,8 @@ completed total link_up store = stored (completed_of total link_up) (filled_if (
 -- past 1536 nothing is written and a Last is answered 4; else the fragment is written behind the bytes so far, and a Last completes its packet (manual 3.6, 4.1, 4.2)
 unfoldable pub joined : ℕ → List ℕ → Bool → Bool → List ℕ → Stored Outcome
 joined at fragment last link_up store =
-    if ltb max_packet (at + length fragment) then
-    stored (if last then outcome.Discarded cause.Over else outcome.Joined) store
+    when ltb max_packet (at + length fragment) then
+    stored (when last then outcome.Discarded cause.Over else outcome.Joined) store
     else
-    if last then completed (at + length fragment) link_up (put store at fragment) else
+    when last then completed (at + length fragment) link_up (put store at fragment) else
     stored outcome.Joined (put store at fragment)

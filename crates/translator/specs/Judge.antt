@@ -1,7 +1,7 @@
 -- What a transaction comes to: its outcome, the row in which it ends the packet that was open, and what it writes (manual 3, 4.1, 5.6).
 use Rattle.std.specs.Prelude.{ℕ, Bool, List, ltb, length}
 use Rattle.prelude.specs.After.{After, after}
-use Rattle.prelude.specs.Choice.{if◌then◌else◌}
+use Rattle.prelude.specs.Choice.{when◌then◌else◌}
 use Rattle.record.specs.Transaction.{Transaction}
 use Rattle.settings.specs.declared.enable.Enabled.{Enabled}
 use Rattle.settings.specs.declared.enable.Enabled.TheVariants as enabled
@@ -28,7 +28,7 @@ JudgedWithStore = Stored Judged
 
 -- a packet that is open ends in the row; where none is, none ends (manual 8.4)
 unfoldable pub ends_in : ℕ → ℕ → ℕ
-ends_in row open_fragments = if ltb 0 open_fragments then row else no_row
+ends_in row open_fragments = when ltb 0 open_fragments then row else no_row
 
 -- a fragment of a bad length is answered 3 and breaks the open packet (manual 3.5)
 unfoldable pub bad_length : ℕ → Judged
@@ -37,8 +37,8 @@ bad_length open_fragments = judged (outcome.Discarded cause.BadLength) (ends_in 
 -- a First begins a packet and supersedes the one that is open; another joins the one that is open, behind its bytes, or is aborted (manual 3.2, 3.3)
 unfoldable pub sequence_of : Bool → ℕ → ℕ → Sequence
 sequence_of first open_fragments open_bytes =
-    if first then sequence.Joins 0 (ends_in superseded open_fragments) else
-    if ltb 0 open_fragments then sequence.Joins open_bytes no_row else
+    when first then sequence.Joins 0 (ends_in superseded open_fragments) else
+    when ltb 0 open_fragments then sequence.Joins open_bytes no_row else
     sequence.Aborted
 
 -- one that joins is judged by its packet; an aborted one leaves the store as it was (manual 2.1, 3.3)
@@ -50,8 +50,8 @@ by_sequence sequence.Aborted bytes last link_up store = stored (judged (outcome.
 -- the length is judged before the sequence (manual 2.2, 3.5)
 unfoldable pub fragment : (maximum open_fragments open_bytes : ℕ) → List ℕ → (first last link_up : Bool) → List ℕ → JudgedWithStore
 fragment maximum open_fragments open_bytes bytes first last link_up store =
-    if ltb (length bytes) 1 then stored (bad_length open_fragments) store else
-    if ltb maximum (length bytes) then stored (bad_length open_fragments) store else
+    when ltb (length bytes) 1 then stored (bad_length open_fragments) store else
+    when ltb maximum (length bytes) then stored (bad_length open_fragments) store else
     by_sequence (sequence_of first open_fragments open_bytes) bytes last link_up store
 
 -- a Receive Enable flushes, whatever it is answered (manual 3.4)
@@ -66,7 +66,7 @@ enable open_fragments bytes settings =
 -- an unknown command flushes where F and L are both set, and else ends nothing (manual 3.4)
 unfoldable pub unknown : ℕ → ℕ → Judged
 unknown open_fragments command =
-    if has_both_flags command then judged outcome.Unknown (ends_in flushed open_fragments) 0 else
+    when has_both_flags command then judged outcome.Unknown (ends_in flushed open_fragments) 0 else
     judged outcome.Unknown no_row 0
 
 -- a fragment leaves the settings alone (manual 2.1)

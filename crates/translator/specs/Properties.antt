@@ -1,7 +1,7 @@
 -- What follows from the rules for every transaction, whatever the state and the buffers (manual 2.2, 2.3, 3, 4, 8).
 use Rattle.std.specs.Prelude.{ℕ, ◌+◌, ◌≤◌, ◌<◌, Bool, true, false, List, ◌⊎◌, ◌≡◌, eqb, leb, ltb, length, get_or}
 use Rattle.prelude.specs.After.{After, after}
-use Rattle.prelude.specs.Choice.{if◌then◌else◌, ◌and◌, ◌or◌}
+use Rattle.prelude.specs.Choice.{when◌then◌else◌, ◌and◌, ◌or◌}
 use Rattle.prelude.specs.Parts.{part}
 use Rattle.packet.specs.Store.{max_packet, min_sent}
 use Rattle.record.specs.Transaction.{Transaction}
@@ -77,17 +77,17 @@ own_row outcome.Full = no_row
 
 -- the row in which a transaction ends the packet that was open: a fragment answered 3 breaks it, another First supersedes it, a command with both flags flushes it (manual 3.2, 3.4, 3.5)
 abbrev pub fragment_closes : Bool → Outcome → ℕ
-fragment_closes first o = if eqb (number_of o) (cause_number cause.BadLength) then broken else (if first then superseded else no_row)
+fragment_closes first o = when eqb (number_of o) (cause_number cause.BadLength) then broken else (when first then superseded else no_row)
 
 unfoldable pub closes_in : Class → ℕ → Outcome → ℕ
 closes_in (class.Fragment first last) command o = fragment_closes first o
 closes_in class.Enable command o = flushed
-closes_in class.Unknown command o = if has_both_flags command then flushed else no_row
+closes_in class.Unknown command o = when has_both_flags command then flushed else no_row
 
 -- it is no row where no packet was open, and where the answer is not counted (manual 8.4)
 unfoldable pub closed_row : Account → ℕ → Outcome → ℕ
 closed_row before command o =
-    if is_open before then (if is_counted (number_of o) then closes_in (class_in commands command) command o else no_row) else no_row
+    when is_open before then (when is_counted (number_of o) then closes_in (class_in commands command) command o else no_row) else no_row
 
 -- the cells of a row are as they were (manual 8.4)
 pub record SameRow (row : ℕ) (before after : List ℕ) : Type 0 where
@@ -140,7 +140,7 @@ open_packet a = packet_of a.beside.open_fragments a.beside.open_bytes
 
 -- what is left of the packet that was open, once the transaction has ended it or not (manual 8.3, 8.4)
 unfoldable pub packet_left : Account → ℕ → Outcome → Packet
-packet_left before command o = if ltb (closed_row before command o) row_count then no_packet else open_packet before
+packet_left before command o = when ltb (closed_row before command o) row_count then no_packet else open_packet before
 
 -- a Last that joins its packet is answered 1, 4, 5 or 6 (manual 3.6)
 abbrev pub completes : ℕ → Bool

@@ -1,6 +1,6 @@
 -- Internal: what the code that counts in rows of three promises, and what it is handed. Nobody has to believe these definitions.
 use Rattle.std.specs.Prelude.{ℕ, ◌+◌, ◌*◌, ◌<◌, ◌≤◌, ◌^◌, List, [], ◌∷◌, ◌≡◌, ltb, length, set}
-use Rattle.prelude.specs.Choice.{if◌then◌else◌}
+use Rattle.prelude.specs.Choice.{when◌then◌else◌}
 use Rattle.state.specs.declared.Account.{Account}
 use Rattle.state.specs.declared.Beside.{Beside}
 use Rattle.state.specs.Account.{Formed, limit, row_count}
@@ -11,7 +11,7 @@ use Rattle.translator.specs.declared.tally.Tally.{Tally}
 -- so many packets, fragments and bytes more in a row, if it is one
 unfoldable pub in_rows : List (List ℕ) → ℕ → ℕ → ℕ → ℕ → List (List ℕ)
 in_rows r row packets fragments bytes =
-    if ltb row row_count then set r row ((cell r row 0 + packets) ∷ (cell r row 1 + fragments) ∷ (cell r row 2 + bytes) ∷ [])
+    when ltb row row_count then set r row ((cell r row 0 + packets) ∷ (cell r row 1 + fragments) ∷ (cell r row 2 + bytes) ∷ [])
     else r
 
 -- the rows after a transaction: its own, then the one in which the open packet ends

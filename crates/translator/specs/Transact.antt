@@ -1,7 +1,7 @@
 -- One transaction from end to end (manual 2.2, 2.3).
 use Rattle.std.specs.Prelude.{ℕ, List, eqb, ltb, length}
 use Rattle.prelude.specs.After.{After, after}
-use Rattle.prelude.specs.Choice.{if◌then◌else◌}
+use Rattle.prelude.specs.Choice.{when◌then◌else◌}
 use Rattle.packet.specs.Store.{max_packet}
 use Rattle.record.specs.Transaction.{Transaction}
 use Rattle.settings.specs.Layout as settings_layout
@@ -26,10 +26,10 @@ with state o = record { state = state; outcome = o }
 -- 12 where a buffer is too short, 13 where the state or the settings are not sound (manual 2.1)
 unfoldable pub readiness_of : State → List ℕ → List ℕ → Readiness
 readiness_of s store settings =
-    if ltb (length store) max_packet then readiness.Rejected outcome.NoRoom else
-    if ltb (length settings) settings_layout.size then readiness.Rejected outcome.NoRoom else
-    if sound s then
-    (if settings_layout.sound settings then readiness.Ready else readiness.Rejected outcome.NotSound)
+    when ltb (length store) max_packet then readiness.Rejected outcome.NoRoom else
+    when ltb (length settings) settings_layout.size then readiness.Rejected outcome.NoRoom else
+    when sound s then
+    (when settings_layout.sound settings then readiness.Ready else readiness.Rejected outcome.NotSound)
     else readiness.Rejected outcome.NotSound
 
 -- what a transaction comes to, by its command, on a state that can take it (manual 2.2)
@@ -45,7 +45,7 @@ applied s j = after (with (with_account s (counted j.result s.account)) j.result
 unfoldable pub by_readiness : Readiness → State → List ℕ → List ℕ → Transaction → After Transacted
 by_readiness (readiness.Rejected o) s store settings t = after (with s o) store settings
 by_readiness readiness.Ready s store settings t =
-    if eqb s.account.beside.total limit then after (with s outcome.Full) store settings else
+    when eqb s.account.beside.total limit then after (with s outcome.Full) store settings else
     applied s (judged_on s store settings t)
 
 -- 12, 13 and 14, then by the command (manual 2.2)

@@ -14,7 +14,7 @@ use crate::judged::{Judged, ends_in};
 use outcome::Outcome;
 use settings::Enabled;
 
-#[derive(Drop)]
+#[derive(Clone, Copy)]
 pub(crate) enum Class {
     // A fragment, with its flags.
     Fragment { first: bool, last: bool },
@@ -22,7 +22,7 @@ pub(crate) enum Class {
     Unknown,
 }
 
-#[derive(Drop)]
+#[derive(Clone, Copy)]
 pub(crate) struct Command {
     byte: u8,
     class: Class,

@@ -11,7 +11,7 @@ use crate::judged::{Judged, ends_in};
 use outcome::{Cause, Outcome};
 
 // What a fragment of an allowed length is to the open packet.
-#[derive(Drop)]
+#[derive(Clone, Copy)]
 pub(crate) enum Sequence {
     // It joins a packet of `at` bytes, and the packet that was open ends in the row, or in NO_ROW.
     Joins { at: u64, ends: usize },

@@ -24,7 +24,7 @@ pub(crate) fn join(store: &mut [u8], at: u64, fragment: &[u8], last: bool, link_
         return Outcome::Joined;
     }
     let start = at as usize;
-    bytes::copy(fragment, &mut store[start..]);
+    store[start..start + fragment.len()].copy_from_slice(fragment);
     if last {
         return complete(store, total, link_up);
     }

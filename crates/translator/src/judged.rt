@@ -4,7 +4,7 @@ ghost use Rattle.translator.specs.Judge.{ends_in};
 
 use outcome::Outcome;
 
-#[derive(Drop)]
+#[derive(Clone, Copy)]
 pub(crate) struct Judged {
     pub outcome: Outcome,
     // The row in which the packet that was open ends, or NO_ROW.

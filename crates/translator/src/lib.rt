@@ -1,5 +1,7 @@
 // One transaction of the management controller from end to end, and a journal's records replayed as
 // transactions.
+#![tactic(auto, using(prelude::proofs::Tests::tests), unfolding(crate::specs::Counting::left_open, crate::specs::Joining::completed_of, crate::specs::Joining::completed, crate::specs::Joining::filled_if, crate::specs::Joining::joined, crate::specs::Judge::ends_in, crate::specs::Judge::bad_length, crate::specs::Judge::sequence_of, crate::specs::Judge::by_sequence, crate::specs::Judge::fragment, crate::specs::Judge::enable, crate::specs::Judge::unknown, crate::specs::Judge::by_class, crate::specs::Rows::in_rows, crate::specs::Rows::rows_after, crate::specs::Transact::readiness_of, crate::specs::Command::has_both_flags))]
+
 mod command;
 mod counting;
 mod fragment;
@@ -20,7 +22,7 @@ pub use records::{Replay, Replayed, account_of, replay_records, start_replay};
 use state::{Account, State};
 
 // A state after a transaction, and what it was answered.
-#[derive(Drop)]
+#[derive(Clone, Copy)]
 pub struct Transacted {
     pub state: State,
     pub outcome: Outcome,

@@ -6,7 +6,7 @@ ghost use Rattle.translator.specs.Transact.{readiness_of};
 use outcome::Outcome;
 use state::{Beside, CELLS};
 
-#[derive(Drop)]
+#[derive(Clone, Copy)]
 pub(crate) enum Readiness {
     Ready,
     // The buffers are too short, or what is handed in is not sound.

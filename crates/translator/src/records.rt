@@ -17,7 +17,7 @@ use state::{Account, Beside, COLUMNS, ROW_COUNT, State};
 // What a packet needs at most.
 const STORE_SIZE: usize = packet::MAX_PACKET as usize;
 
-#[derive(Drop)]
+#[derive(Clone, Copy)]
 pub struct Replay {
     state: State,
     store: [u8; STORE_SIZE],
@@ -25,7 +25,7 @@ pub struct Replay {
 }
 
 // A replay that went on, and where it stopped.
-#[derive(Drop)]
+#[derive(Clone, Copy)]
 pub struct Replayed {
     pub replay: Replay,
     // The place behind the last whole record.
@@ -35,7 +35,7 @@ pub struct Replayed {
 }
 
 // Where the records of a part stopped.
-#[derive(Drop)]
+#[derive(Clone, Copy)]
 struct Stopped {
     state: State,
     at: usize,

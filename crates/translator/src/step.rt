@@ -9,7 +9,7 @@ use crate::{command, tally};
 use outcome::Outcome;
 use state::Beside;
 
-#[derive(Drop)]
+#[derive(Clone, Copy)]
 pub(crate) struct Step {
     pub outcome: Outcome,
     // The row in which the packet that was open ends, or NO_ROW.

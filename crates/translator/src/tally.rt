@@ -10,7 +10,7 @@ use outcome::{Cause, Outcome};
 use state::{Beside, ROW_COUNT};
 
 // What a transaction adds to an account, and the packet that is open then.
-#[derive(Drop)]
+#[derive(Clone, Copy)]
 pub(crate) struct Tally {
     // The row of its fate, or NO_ROW, and what is added there.
     pub row: usize,

@@ -1,7 +1,7 @@
 -- What a worked example asks, and when it holds (manual 10).
 use Rattle.std.specs.Prelude.{ℕ, zero, suc, ◌+◌, ◌%◌, Bool, true, false, List, [], ◌∷◌, ◌++◌, ◌≡◌, eqb, length, take, replicate}
 use Rattle.prelude.specs.After.{After}
-use Rattle.prelude.specs.Choice.{if◌then◌else◌}
+use Rattle.prelude.specs.Choice.{when◌then◌else◌}
 use Rattle.setlink.specs.declared.Decision.{Decision}
 use Rattle.setlink.specs.declared.Media.{Media}
 use Rattle.setlink.specs.Decide.{decided, fresh_word}
@@ -88,7 +88,7 @@ line row packets fragments bytes = record { row = row; cells = packets ∷ fragm
 
 unfoldable pub cells_in : List Line → ℕ → List ℕ
 cells_in [] row = 0 ∷ 0 ∷ 0 ∷ []
-cells_in (l ∷ rest) row = if eqb row l.row then l.cells else cells_in rest row
+cells_in (l ∷ rest) row = when eqb row l.row then l.cells else cells_in rest row
 
 -- the state for a maximum in which only these rows have counted, and commands that were taken or refused; no packet is open (manual 8.5, 8.8)
 abbrev pub counting : (maximum : ℕ) → List Line → (taken refusals total : ℕ) → State
@@ -153,8 +153,8 @@ Holds (resumed state settings asked expected left) =
 Holds (account_is sound state) = account_sound state.account ≡ sound
 Holds (maximum asked answer is) = ((made asked).answer ≡ answer) × ((made asked).state ≡ counting is [] 0 0 0)
 Holds (addresses settings flash mac ipv4) =
-    ((in_force Mac (record { ref_ptr = (0, 0); now = settings }) (record { ref_ptr = (1, 0); ghost_name = 1; now = flash })).bytes ≡ mac)
-    × ((in_force Ipv4 (record { ref_ptr = (0, 0); now = settings }) (record { ref_ptr = (1, 0); ghost_name = 1; now = flash })).bytes ≡ ipv4)
+    ((in_force Mac (record { ref_ptr = (0, 0); now = settings }) (record { ref_ptr = (1, 0); now = flash })).bytes ≡ mac)
+    × ((in_force Ipv4 (record { ref_ptr = (0, 0); now = settings }) (record { ref_ptr = (1, 0); now = flash })).bytes ≡ ipv4)
 Holds (link word host_present media expected) = decided fresh_word word host_present media ≡ expected
 Holds (writes fields answer field block) =
     ◌≡◌ {A = ℕ × ℕ × List ℕ} (status_number_of (written fields).answer, bad_field_number (written fields).answer, (written fields).block) (answer, field, block)
