@@ -6,11 +6,11 @@ PREFIX = /usr/local
 DESTDIR =
 VERSION = 0.2.0
 
-library = target/staticlib/libtco.a
-program = target/bin/account
+library = crates/tco/out/libtco.a
+program = crates/account/out/account
 libexec = $(PREFIX)/libexec/tco
 to = $(DESTDIR)$(PREFIX)
-sources = crates.txt $(shell find crates -name must-fail -prune -o -type f -print)
+sources = crates.txt $(shell find crates \( -name must-fail -o -name out \) -prune -o -type f -print)
 
 .PHONY: all test install uninstall
 .NOTPARALLEL:
@@ -18,11 +18,13 @@ sources = crates.txt $(shell find crates -name must-fail -prune -o -type f -prin
 all: $(library) $(program)
 
 $(library): $(sources)
-	rt staticlib tco
-
-$(program): $(sources)
-	rt check account
+	cd crates/tco && rt lib
 	touch $@
+
+# `rt run` builds the program and then runs it, here on a journal of no bytes.
+$(program): $(sources)
+	rm -f $@
+	cd crates/account && rt run </dev/null >/dev/null || test -x out/account
 
 test:
 	.ci/run

@@ -25,8 +25,18 @@ fi
 [ $# -le 1 ] || fail "$usage"
 [ -x "$program" ] || build
 
+# std opens a path only where it is UTF-8, so a journal of another name is opened here.
+is_utf8() { printf '%s' "$1" | iconv -f UTF-8 -t UTF-16 >/dev/null 2>&1; }
+run() {
+    if [ $# -eq 1 ] && [ -r "$1" ] && [ ! -d "$1" ] && ! is_utf8 "$1"; then
+        "$program" <"$1"
+    else
+        "$program" "$@"
+    fi
+}
+
 # The program writes nothing or all of its few lines, and a message only in the stead of them.
-outcome=$({ "$program" "$@" 2>&1 >&3 | sed '/^account: /!s/^/account: /' >&2; } 3>&1)
+outcome=$({ run "$@" 2>&1 >&3 | sed '/^account: /!s/^/account: /' >&2; } 3>&1)
 [ -n "$outcome" ] || exit 2
 show "$outcome"
 [ "$outcome" != "bad journal" ]

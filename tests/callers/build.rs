@@ -6,10 +6,10 @@ use std::path::{Path, PathBuf};
 
 fn main() {
     println!("cargo:rerun-if-env-changed=TCO_ARCHIVE");
-    let target = PathBuf::from(env!("CARGO_MANIFEST_DIR")).join("../../target");
+    let top = PathBuf::from(env!("CARGO_MANIFEST_DIR")).join("../..");
     let archive = match env::var_os("TCO_ARCHIVE") {
         Some(named) => PathBuf::from(named),
-        None => target.join("staticlib/libtco.a"),
+        None => top.join("crates/tco/out/libtco.a"),
     };
     link("rust-caller", &archive);
     link("bench-link", &archive);
@@ -17,8 +17,8 @@ fn main() {
     if env::var_os("CARGO_FEATURE_BEFORE").is_none() {
         link("bench-calls", &archive);
     } else {
-        link("bench-calls", &target.join("callers/libproved.a"));
-        link("bench-calls", &target.join("callers/libbefore.a"));
+        link("bench-calls", &top.join("target/callers/libproved.a"));
+        link("bench-calls", &top.join("target/callers/libbefore.a"));
     }
 }
 
