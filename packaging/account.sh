@@ -1,5 +1,5 @@
-# What ./account and the installed program share. A Rattle program has no exit status of its own, and
-# this gives it one, by what the program printed: an account, `bad journal`, or nothing. Set before it:
+# What ./account and the installed program share. The program ends with 0 whatever it printed, and this
+# gives it an exit status by that: an account, `bad journal`, or nothing. Set before it:
 # `program`, the binary, and `build`, for where there is none.
 
 fail() {
