@@ -1,3 +1,4 @@
+pub mod Fits
 pub mod Fronts
 pub mod Moving
 pub mod Sessions

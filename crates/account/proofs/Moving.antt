@@ -1,49 +1,55 @@
--- Bytes moved to the start of their buffer one by one.
+-- The bytes of a buffer from one place up to another, moved to its start.
 -- Assumes nothing.
-use Prim.Native.Nat.{ℕ, suc, ◌+◌, ◌<◌}
-use mathlib.Core.List.{List, [], ◌∷◌, ◌++◌, append_assoc}
-use mathlib.Core.Path.{◌≡◌, refl, sym, ap, ◌∙◌}
-use native.Mathlib.Nat.{zero-add}
-use native.Mathlib.Numerals.{add-one}
+use Prim.Native.Nat.{ℕ, ◌+◌, ◌-◌, ◌≤◌, zero-le}
+use mathlib.Core.List.{List, ◌++◌}
+use mathlib.Core.Path.{◌≡◌, sym, ap, ◌∙◌}
 use native.Mathlib.Omega.{arith}
-use lib.ListN.{length, get_or, set, drop, length-drop}
-use lib.Seq.{take-suc, drop-cons, get_or-append-add, get_or-drop, set_at}
+use lib.ListN.{length, take, drop}
+use lib.Seq.{take-add, take_at, drop_at, length-take-le}
+use borrow.Author.Tests.{le-ltb, ltb-false}
+use Rattle.std.specs.List.{copy_within}
 use Rattle.prelude.specs.Parts.{part, put}
-use Rattle.prelude.proofs.Lists.{length_part}
+use Rattle.prelude.proofs.Lists.{length_part, length-put}
+use Rattle.prelude.proofs.Tests.{if-false, if-cases}
+use Rattle.account.specs.Buffer.{Moved, moved, moved_to_front}
 
--- the buffer after i of its bytes from `from` on were moved
-abbrev pub moved_some : List ℕ → ℕ → ℕ → List ℕ
-moved_some buffer from i = put buffer 0 (part from i buffer)
+-- the part from one place up to another is what the first of them leave
+drop-take : (from to : ℕ) (xs : List ℕ) → from ≤ to → to ≤ length xs → drop from (take to xs) ≡ part from (to - from) xs
+drop-take from to xs h k =
+    let whole : from + (to - from) ≡ to = omega arith in
+    ap (λ (n : ℕ). drop from (take n xs)) (sym whole)
+    ∙ (ap (drop from) (take-add from (to - from) xs) ∙ drop_at (take from xs) (part from (to - from) xs) from (length-take-le from xs (omega arith)))
 
-pub none-moved : (buffer : List ℕ) (from : ℕ) → moved_some buffer from 0 ≡ buffer
-unfolding put
-none-moved buffer from = refl
+-- what is moved to the front is there
+module _ (from to : ℕ) (buffer : List ℕ) (h : from ≤ to) (k : to ≤ length buffer) where
+  abbrev piece : List ℕ
+  piece = part from (to - from) buffer
 
-module _ (buffer : List ℕ) (from i : ℕ) (h : from + i < length buffer) where
-  front : length (part from i buffer) ≡ i
-  front = length_part from i buffer (omega arith)
+  piece-size : length piece ≡ to - from
+  piece-size = length_part from (to - from) buffer (omega arith)
 
-  some-moved : moved_some buffer from i ≡ part from i buffer ++ drop i buffer
+  pub is-moved : moved_to_front from to buffer ≡ moved (to - from) (put buffer 0 piece)
+  unfolding moved_to_front
+  is-moved = if-false _ _ _ (le-ltb (length buffer) to k) ∙ if-false _ _ _ (le-ltb to from h)
+
+  pub moved-bytes : take (moved_to_front from to buffer).count (moved_to_front from to buffer).buffer ≡ drop from (take to buffer)
   unfolding put
-  some-moved = rw (front, zero-add)
+  moved-bytes =
+      ap (λ (m : Moved). take m.count m.buffer) is-moved
+      ∙ (take_at piece (drop (0 + length piece) buffer) (to - from) piece-size ∙ sym (drop-take from to buffer h k))
 
-  pub next-byte : get_or (moved_some buffer from i) (from + i) 0 ≡ get_or buffer (from + i) 0
-  next-byte =
-      let place : from + i ≡ length (part from i buffer) + from = omega (arith, front) in
-      let same : i + from ≡ from + i = omega arith in
-      ap (λ (b : List ℕ). get_or b (from + i) 0) some-moved
-      ∙ ap (λ (k : ℕ). get_or (part from i buffer ++ drop i buffer) k 0) place
-      ∙ get_or-append-add (part from i buffer) (drop i buffer) from 0
-      ∙ get_or-drop i buffer from 0
-      ∙ ap (λ (k : ℕ). get_or buffer k 0) same
-
-  pub one_more : set (moved_some buffer from i) i (get_or buffer (from + i) 0) ≡ moved_some buffer from (i + 1)
+  pub copied-to-front : copy_within buffer from to 0 ≡ put buffer 0 piece
   unfolding put
-  one_more =
-      let within : i < length (drop from buffer) = rw length-drop (omega arith) in
-      let byte : get_or (drop from buffer) i 0 ≡ get_or buffer (from + i) 0 = get_or-drop from buffer i 0 in
-      let longer : part from (i + 1) buffer ≡ part from i buffer ++ (get_or buffer (from + i) 0 ∷ []) = rw (add-one i, ← byte) (take-suc (drop from buffer) i 0 within) in
-      let size : length (part from (i + 1) buffer) ≡ i + 1 = length_part from (i + 1) buffer (omega arith) in
-      ap (λ (b : List ℕ). set b i (get_or buffer (from + i) 0)) (some-moved ∙ ap (λ (r : List ℕ). part from i buffer ++ r) (drop-cons buffer i 0 (omega arith)))
-      ∙ set_at (part from i buffer) (get_or buffer i 0) (drop (suc i) buffer) (get_or buffer (from + i) 0) i front
-      ∙ sym (rw (size, zero-add, longer, add-one i) (append_assoc (part from i buffer) (get_or buffer (from + i) 0 ∷ []) (drop (suc i) buffer)))
+  copied-to-front = ap (λ (n : ℕ). piece ++ drop (0 + n) buffer) (sym piece-size)
+
+-- no more than the buffer holds
+pub moved-fits : (from to : ℕ) (buffer : List ℕ) → (moved_to_front from to buffer).count ≤ length (moved_to_front from to buffer).buffer
+unfolding moved_to_front
+moved-fits from to buffer =
+    if-cases Fits _ _ _ (λ _. zero-le) (λ room.
+    if-cases Fits _ _ _ (λ _. zero-le) (λ forward.
+    let size : length (put buffer 0 (part from (to - from) buffer)) ≡ length buffer = length-put buffer (part from (to - from) buffer) 0 (omega (arith, ltb-false, length_part from (to - from) buffer (omega (arith, ltb-false)))) in
+    omega (arith, ltb-false, size)))
+  where
+    Fits : Moved → Type 0
+    Fits m = m.count ≤ length m.buffer

@@ -6,54 +6,23 @@ use mathlib.Core.List.{List, [], ◌∷◌, ◌++◌, append-nil}
 use mathlib.Core.Path.{◌≡◌, refl, sym, ap, subst, ◌∙◌}
 use native.Mathlib.Omega.{arith}
 use lib.ListN.{length, take, drop, length-drop}
-use lib.Seq.{take-add, take_at, drop_at, length-take-le}
+use lib.Seq.{take-add, length-take-le}
 use borrow.Author.Tests.{le-ltb}
 use Rattle.prelude.specs.Choice.{when◌then◌else◌}
-use Rattle.prelude.specs.Parts.{part, put}
-use Rattle.prelude.proofs.Lists.{length_part, length-put}
+use Rattle.prelude.specs.Parts.{part}
 use Rattle.prelude.proofs.Tests.{if-true, if-false}
 use Rattle.printout.specs.Printout.{shown}
-use Rattle.journal.specs.declared.reading.Fed.{Fed}
 use Rattle.journal.specs.declared.reading.Reading.{Reading}
-use Rattle.journal.specs.Feeding.{fed, is_bad, started, concluded}
+use Rattle.journal.specs.Feeding.{Fed, fed, is_bad, started, concluded}
 use Rattle.journal.specs.Journal.{output}
 use Rattle.journal.specs.Properties.{Progress, fed_on, fed_pieces, at_start, max_record}
 use Rattle.journal.proofs.Left.{less-than-a-record}
 use Rattle.journal.proofs.Pieces.{in_pieces}
 use Rattle.journal.proofs.Whole.{fed-within}
-use Rattle.account.specs.Buffer.{Moved, moved, moved_to_front}
+use Rattle.account.specs.Buffer.{Moved, moved_to_front}
+use Rattle.account.proofs.Moving.{is-moved, moved-bytes, moved-fits}
 use Rattle.account.specs.Piece.{InBuffer, first_of, used_of, unused_moved, piece_fed}
 use Rattle.account.specs.Properties.{Reads, Session, begins, goes_on, EverySession, AlwaysRoom}
-
--- the part from one place up to another is what the first of them leave
-drop-take : (from to : ℕ) (xs : List ℕ) → from ≤ to → to ≤ length xs → drop from (take to xs) ≡ part from (to - from) xs
-drop-take from to xs h k =
-    let whole : from + (to - from) ≡ to = omega arith in
-    ap (λ (n : ℕ). drop from (take n xs)) (sym whole)
-    ∙ (ap (drop from) (take-add from (to - from) xs) ∙ drop_at (take from xs) (part from (to - from) xs) from (length-take-le from xs (omega arith)))
-
--- what is moved to the front is there
-module _ (from to : ℕ) (buffer : List ℕ) (h : from ≤ to) (k : to ≤ length buffer) where
-  abbrev piece : List ℕ
-  piece = part from (to - from) buffer
-
-  piece-size : length piece ≡ to - from
-  piece-size = length_part from (to - from) buffer (omega arith)
-
-  is-moved : moved_to_front from to buffer ≡ moved (to - from) (put buffer 0 piece)
-  unfolding moved_to_front
-  is-moved = if-false _ _ _ (le-ltb (length buffer) to k) ∙ if-false _ _ _ (le-ltb to from h)
-
-  pub moved-bytes : take (moved_to_front from to buffer).count (moved_to_front from to buffer).buffer ≡ drop from (take to buffer)
-  unfolding put
-  moved-bytes =
-      ap (λ (m : Moved). take m.count m.buffer) is-moved
-      ∙ (take_at piece (drop (0 + length piece) buffer) (to - from) piece-size ∙ sym (drop-take from to buffer h k))
-
-  pub moved-fits : (moved_to_front from to buffer).count ≤ length (moved_to_front from to buffer).buffer
-  moved-fits =
-      let size : length (put buffer 0 piece) ≡ length buffer = length-put buffer piece 0 (omega (arith, piece-size)) in
-      subst (λ (m : Moved). m.count ≤ length m.buffer) (sym is-moved) (omega (arith, size))
 
 -- the reading is that of all the bytes, and unless it is bad the unused bytes are kept
 pub record Stands (bytes : List ℕ) (s : InBuffer) : Type 0 where
@@ -147,7 +116,7 @@ module _ (bytes piece : List ℕ) (before after : InBuffer) (st : Stands bytes b
       subst (Stands (bytes ++ piece)) (sym after_is)
       (record {
         reading-is = reading-next (is_bad before.next.reading) refl ∙ ap (λ (q : Progress). q.reading) on;
-        fits = moved-fits used r.end r.filled used-inside r.inside;
+        fits = moved-fits used r.end r.filled;
         none-of-bad = none-next;
         unused-are = λ good. left-next good ∙ ap (λ (q : Progress). q.unused) on;
       })

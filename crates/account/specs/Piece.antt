@@ -1,25 +1,15 @@
 -- How reading goes on (manual 9.5).
-use Rattle.std.specs.Prelude.{ℕ, Bool, false, List, [], ltb, ℤ, pos, length, take}
-use Rattle.std.specs.Int.Signed.{lt_z}
+use Rattle.std.specs.Prelude.{ℕ, ◌+◌, Bool, List, [], Result, Ok, Err, Option, Some, None, eqb, ltb, length, take}
+use Rattle.std.specs.declared.io.Error.{Error}
 use Rattle.prelude.specs.Choice.{when◌then◌else◌}
-use Rattle.journal.specs.declared.reading.Fed.{Fed}
 use Rattle.journal.specs.declared.reading.Reading.{Reading}
-use Rattle.journal.specs.Feeding.{fed, is_bad}
-use Rattle.account.specs.declared.piece.Answer.{Answer}
-use Rattle.account.specs.declared.piece.Answer.TheVariants as answer
+use Rattle.journal.specs.Feeding.{Fed, fed, is_bad}
 use Rattle.account.specs.declared.piece.Next.{Next}
 use Rattle.account.specs.Buffer.{Moved, moved_to_front}
 
--- below zero a read failed, and at zero nothing comes any more (manual 9.5)
-unfoldable pub answer_of : ℤ → Answer
-answer_of got =
-    when lt_z got (pos 0) then answer.Failed else
-    when lt_z (pos 0) got then answer.Read else
-    answer.Ended
-
--- a reading, how many bytes it has not used, and whether no more is read (manual 9.5)
-abbrev pub next_at : Reading → ℕ → Bool → Next
-next_at reading unused is_over = record { reading = reading; unused = unused; is_over = is_over }
+-- a reading, and how many bytes it has not used (manual 9.5)
+abbrev pub next_at : Reading → ℕ → Next
+next_at reading unused = record { reading = reading; unused = unused }
 
 -- how reading goes on, and what the buffer holds: at its start the bytes that were not used yet (manual 9.5)
 pub record InBuffer : Type 0 where
@@ -40,7 +30,7 @@ first_of size buffer = when ltb (length buffer) size then [] else take size buff
 
 -- a reading behind a piece, and a buffer in which bytes were moved (manual 9.5)
 abbrev pub after_piece : Fed → Moved → InBuffer
-after_piece f m = in_buffer (next_at f.reading m.count false) m.buffer
+after_piece f m = in_buffer (next_at f.reading m.count) m.buffer
 
 -- those moved to the start are the ones that it did not use (manual 9.5)
 abbrev pub unused_moved : Fed → ℕ → List ℕ → InBuffer
@@ -49,3 +39,21 @@ unused_moved f end buffer = after_piece f (moved_to_front (used_of (is_bad f.rea
 -- the first bytes of a buffer, fed (manual 9.5)
 unfoldable pub piece_fed : Reading → ℕ → List ℕ → InBuffer
 piece_fed reading end buffer = unused_moved (fed reading (first_of end buffer)) end buffer
+
+-- what a read leads to, and what the buffer holds then (manual 9.5)
+pub record Stepped : Type 0 where
+  pub step : Result (Option Next) Error
+  pub buffer : List ℕ
+
+-- both of these (manual 9.5)
+abbrev pub stepped : Result (Option Next) Error → List ℕ → Stepped
+stepped step buffer = record { step = step; buffer = buffer }
+
+-- reading goes on from there (manual 9.5)
+abbrev pub on_from : InBuffer → Stepped
+on_from s = stepped (Ok (Some s.next)) s.buffer
+
+-- a read that failed ends reading, at no bytes nothing comes any more, and others are fed behind the unused ones (manual 9.5)
+unfoldable pub after_read : Next → Result ℕ Error → List ℕ → Stepped
+after_read next (Err error) buffer = stepped (Err error) buffer
+after_read next (Ok count) buffer = when eqb count 0 then stepped (Ok None) buffer else on_from (piece_fed next.reading (next.unused + count) buffer)

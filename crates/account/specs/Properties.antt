@@ -1,5 +1,5 @@
 -- What the program prints, however its input comes in (manual 9.5, 9.6).
-use Rattle.std.specs.Prelude.{ℕ, ◌-◌, ◌≤◌, ◌<◌, false, List, [], ◌++◌, ◌≡◌, length, take}
+use Rattle.std.specs.Prelude.{ℕ, ◌-◌, ◌≤◌, ◌<◌, List, [], ◌++◌, ◌≡◌, length, take}
 use Rattle.prelude.specs.Parts.{part}
 use Rattle.printout.specs.Printout.{shown}
 use Rattle.journal.specs.Feeding.{started, concluded}
@@ -19,7 +19,7 @@ pub record Reads (before : InBuffer) (piece : List ℕ) (after : InBuffer) : Typ
 
 -- the bytes that some reads gave, and how far reading is then (manual 9.5)
 pub data Session : List ℕ → InBuffer → Type 0 where
-  begins : (buffer : List ℕ) → Session [] (in_buffer (next_at started 0 false) buffer)
+  begins : (buffer : List ℕ) → Session [] (in_buffer (next_at started 0) buffer)
   goes_on : {bytes piece : List ℕ} {before after : InBuffer} → Session bytes before → Reads before piece after → Session (bytes ++ piece) after
 
 -- when nothing comes any more, the outcome of all the bytes is printed (manual 9.5)

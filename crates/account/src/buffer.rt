@@ -5,14 +5,15 @@ ghost use Rattle.std.specs.Prelude.{◌≡◌};
 ghost use Rattle.prelude.specs.Parts.{slice_of};
 ghost use Rattle.account.specs.Buffer.{front_of, moved, moved_to_front};
 
-// The first `size` bytes, or an empty part where there are fewer.
+// The first `size` bytes, or an empty part where there are fewer. Not by `get`, which does not
+// promise where in memory its part lies.
 pub(crate) fn front(buffer: &[u8], size: usize) -> &[u8]
     ensures { slice_of result ≡ front_of buffer.entry size }
 {
     if buffer.len() < size {
-        return &buffer[0..0];
+        return &buffer[..0];
     }
-    &buffer[0..size]
+    &buffer[..size]
 }
 
 // Moves the bytes from `from` up to, not including, `to` to the start, and answers how many they
@@ -26,11 +27,6 @@ pub(crate) fn move_to_front(buffer: &mut [u8], from: usize, to: usize) -> usize
     if to < from {
         return 0;
     }
-    let count = to - from;
-    let mut i: usize = 0;
-    while i < count {
-        buffer[i] = buffer[from + i];
-        i += 1;
-    }
-    count
+    buffer.copy_within(from..to, 0);
+    to - from
 }

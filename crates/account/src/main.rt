@@ -5,11 +5,9 @@
 mod buffer;
 mod piece;
 
-ghost use Rattle.std.specs.Prelude.{◌≡◌, pos, negsuc, min, MatchResult};
-
 use buffer::front;
 use journal::Reading;
-use piece::{Answer, Next, answer_of, feed_piece, over};
+use piece::{Next, after_read};
 use std::env::{Env, FillError};
 use std::fmt::InlineText;
 use std::fs::Files;
@@ -44,7 +42,7 @@ fn main(rt: HostRuntime) {
     };
     let mut path = [0u8; PATH_SIZE];
     if !has_argument(&rt, 1) {
-        print_account(streams, &mut rt.stdin(), b"standard input");
+        streams.print_account(&mut rt.stdin(), b"standard input");
         return;
     }
     if has_argument(&rt, 2) {
@@ -53,29 +51,14 @@ fn main(rt: HostRuntime) {
         return;
     }
     match rt.arg(1, &mut path) {
-        Ok(size) => print_named(&rt, streams, &path[..size]),
-        Err(_) => fail(streams, b"JOURNAL", Error::from_raw_os_error(ENAMETOOLONG)),
+        Ok(size) => streams.print_named(&rt, &path[..size]),
+        Err(_) => streams.fail(b"JOURNAL", Error::from_raw_os_error(ENAMETOOLONG)),
     }
 }
 
 // Whether the program was started with an argument of this number, its own name being number 0.
 fn has_argument(env: &impl Env, i: usize) -> bool {
-    match env.arg(i, &mut []) {
-        Err(FillError::NotPresent) => false,
-        _ => true,
-    }
-}
-
-// Prints the account of the journal in the file, or the usage where that is asked for.
-fn print_named(files: &impl Files, streams: Streams, path: &[u8]) {
-    if path == b"--help".as_slice() {
-        print_usage(&streams.out);
-        return;
-    }
-    match open(files, path) {
-        Ok(mut file) => print_account(streams, &mut file, path),
-        Err(error) => fail(streams, path, error),
-    }
+    !matches!(env.arg(i, &mut []), Err(FillError::NotPresent))
 }
 
 fn open<R: Files>(files: &R, path: &[u8]) -> io::Result<R::File> {
@@ -89,16 +72,6 @@ fn print_usage(to: &impl Print) {
     put(to, b"usage: account [JOURNAL]\n");
 }
 
-// Says on standard error what failed, and why.
-fn fail(streams: Streams, name: &[u8], error: Error) {
-    let reason = InlineText::<REASON_SIZE>::of(error);
-    put(&streams.err, b"account: ");
-    put(&streams.err, name);
-    put(&streams.err, b": ");
-    put(&streams.err, without_number(reason.as_str()).as_bytes());
-    put(&streams.err, b"\n");
-}
-
 // What std says of an error of the system's, without the number behind it.
 fn without_number(reason: &str) -> &str {
     match reason.rsplit_once(" (os error ") {
@@ -107,72 +80,65 @@ fn without_number(reason: &str) -> &str {
     }
 }
 
-// Nothing is left to say where standard error cannot be written.
+// Prints bytes that need not be UTF-8, as those of a path, which `write!` does not. Nothing is
+// left to say where standard error cannot be written.
 fn put(to: &impl Print, bytes: &[u8]) {
     let _ = to.write_all(bytes);
 }
 
-// A proved loop has to end, and nothing says that the input does. So the loop counts its turns
-// down, from a number that no run uses up.
-fn print_account(streams: Streams, input: &mut impl Read, name: &[u8]) {
-    let mut buffer = [0u8; BUFFER_SIZE];
-    let mut reading = journal::start();
-    let mut unused: usize = 0;
-    let mut turns = u64::MAX;
-    while turns > 0 {
-        let next = read_some(streams, input, name, &mut buffer, unused, reading);
-        if next.is_over {
+impl Streams {
+    // Prints the account of the journal in the file, or the usage where that is asked for.
+    fn print_named(self, files: &impl Files, path: &[u8]) {
+        if path == b"--help".as_slice() {
+            print_usage(&self.out);
             return;
         }
-        reading = next.reading;
-        unused = next.unused;
-        turns -= 1;
+        match open(files, path) {
+            Ok(mut file) => self.print_account(&mut file, path),
+            Err(error) => self.fail(path, error),
+        }
     }
-}
 
-// Reads once behind the first `unused` bytes of the buffer and feeds what is there, or prints the
-// outcome where no more comes.
-fn read_some(
-    streams: Streams,
-    input: &mut impl Read,
-    name: &[u8],
-    buffer: &mut [u8],
-    unused: usize,
-    reading: Reading,
-) -> Next {
-    if buffer.len() < unused {
-        return over(reading);
-    }
-    let read = input.read(&mut buffer[unused..]);
-    match answer_of(number_of(read)) {
-        Answer::Failed => {
-            if let Err(error) = read {
-                fail(streams, name, error);
+    // Reads to the end and prints the outcome. A proved loop has to end, and nothing says that the
+    // input does, so the loop ends after more turns than any run takes.
+    fn print_account(self, input: &mut impl Read, name: &[u8]) {
+        // fixed memory, whatever the journal: so a buffer beside the count of its unused bytes
+        let mut buffer = [0u8; BUFFER_SIZE];
+        let mut next = Next {
+            reading: Reading::start(),
+            unused: 0,
+        };
+        'reads: for _ in 0..u64::MAX {
+            let read = input.read(&mut buffer[next.unused..]);
+            match after_read(next, &mut buffer, read) {
+                Ok(Some(after)) => next = after,
+                Ok(None) => {
+                    self.print_outcome(next);
+                    return;
+                }
+                Err(error) => {
+                    self.fail(name, error);
+                    return;
+                }
             }
-            over(reading)
         }
-        Answer::Ended => {
-            print_outcome(streams, reading, unused);
-            over(reading)
+    }
+
+    fn print_outcome(self, next: Next) {
+        let mut out = [0u8; printout::MAX_PRINTOUT];
+        let size = next.reading.conclude(next.unused, &mut out);
+        if let Err(error) = self.out.write_all(front(&out, size)) {
+            self.fail(b"standard output", error);
         }
-        Answer::Read => feed_piece(reading, buffer, unused + read.unwrap_or(0)),
     }
-}
 
-// What a read answered as the system's one number, which is below zero where it failed.
-fn number_of(read: io::Result<usize>) -> isize
-    ensures { MatchResult read (λ count. result ≡ pos (min count 9223372036854775807)) (λ _. result ≡ negsuc 0) }
-{
-    match read {
-        Ok(count) => isize::try_from(count).unwrap_or(isize::MAX),
-        Err(_) => -1,
-    }
-}
-
-fn print_outcome(streams: Streams, reading: Reading, unused: usize) {
-    let mut out = [0u8; printout::MAX_PRINTOUT];
-    let size = journal::conclude(reading, unused, &mut out);
-    if let Err(error) = streams.out.write_all(front(&out, size)) {
-        fail(streams, b"standard output", error);
+    // Says on standard error what failed, and why.
+    fn fail(self, name: &[u8], error: Error) {
+        let reason = InlineText::<REASON_SIZE>::of(error);
+        put(&self.err, b"account: ");
+        put(&self.err, name);
+        put(&self.err, b": ");
+        put(&self.err, without_number(reason.as_str()).as_bytes());
+        put(&self.err, b"\n");
     }
 }

@@ -1,55 +1,45 @@
 // How reading goes on, by what a read answered and by what was read.
-#![tactic(auto, using(prelude::proofs::Tests::tests), unfolding(crate::specs::Piece::answer_of))]
+#![tactic(auto, using(prelude::proofs::Tests::tests), unfolding(crate::specs::Piece::after_read))]
 
-ghost use Rattle.std.specs.Prelude.{true, ◌≡◌};
-ghost use Rattle.account.specs.Piece.{answer_of, in_buffer, next_at, piece_fed, used_of};
+ghost use Rattle.std.specs.Prelude.{◌≡◌, ◌+◌, ◌≤◌, length, IfOk};
+ghost use Rattle.account.specs.Piece.{stepped, after_read, in_buffer, piece_fed, used_of};
 
 use crate::buffer::{front, move_to_front};
 use journal::Reading;
+use std::io;
 
-// What a read answered.
-#[derive(Clone, Copy)]
-pub(crate) enum Answer {
-    Failed,
-    // Nothing comes any more.
-    Ended,
-    // Some bytes were read.
-    Read,
-}
-
-// How reading goes on: from here, with so many bytes at the start of the buffer that were not used
-// yet, or not at all.
+// How far reading is, with so many bytes at the start of the buffer that were not used yet.
 #[derive(Clone, Copy)]
 pub(crate) struct Next {
     pub(crate) reading: Reading,
     pub(crate) unused: usize,
-    pub(crate) is_over: bool,
 }
 
-// What a read said by the number that it gave.
-pub(crate) fn answer_of(got: isize) -> Answer
-    ensures { result ≡ answer_of got }
+// Feeds what a read put behind the unused bytes; `None` where nothing comes any more.
+pub(crate) fn after_read(
+    next: Next,
+    buffer: &mut [u8],
+    read: io::Result<usize>,
+) -> io::Result<Option<Next>>
+    requires { IfOk read (λ count. next.unused + count ≤ length buffer.old) }
+    ensures { stepped result buffer.new ≡ after_read next read buffer.old }
 {
-    if got < 0 {
-        return Answer::Failed;
+    let count = read?;
+    if count == 0 {
+        return Ok(None);
     }
-    if 0 < got {
-        return Answer::Read;
-    }
-    Answer::Ended
+    Ok(Some(feed_piece(next.reading, buffer, next.unused + count)))
 }
 
 // Feeds the first `end` bytes of the buffer, and moves those that were not used to its start.
-pub(crate) fn feed_piece(reading: Reading, buffer: &mut [u8], end: usize) -> Next
+pub(crate) fn feed_piece(mut reading: Reading, buffer: &mut [u8], end: usize) -> Next
     ensures { in_buffer result buffer.new ≡ piece_fed reading end buffer.old }
 {
-    let fed = journal::feed(reading, front(buffer, end));
-    let reading = fed.reading;
-    let used = used_of(journal::is_bad(reading), fed.used, end);
+    let fed = reading.feed(front(buffer, end));
+    let used = used_of(reading.is_bad(), fed, end);
     Next {
         reading,
         unused: move_to_front(buffer, used, end),
-        is_over: false,
     }
 }
 
@@ -61,15 +51,4 @@ fn used_of(is_bad: bool, used: usize, end: usize) -> usize
         return end;
     }
     used
-}
-
-// Nothing is read any more.
-pub(crate) fn over(reading: Reading) -> Next
-    ensures { result ≡ next_at reading 0 true }
-{
-    Next {
-        reading,
-        unused: 0,
-        is_over: true,
-    }
 }

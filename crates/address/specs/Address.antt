@@ -1,5 +1,5 @@
 -- The addresses in force: where each comes from, and the part that is shown (manual 5.8, 5.9).
-use Rattle.std.specs.Prelude.{ℕ, Bool, List, ltb, length}
+use Rattle.std.specs.Prelude.{ℕ, Bool, List, Option, Some, None, ltb, length}
 use Rattle.std.specs.Borrow.{Bor}
 use Rattle.prelude.specs.Choice.{when◌then◌else◌}
 use Rattle.prelude.specs.Parts.{Slice, part_of}
@@ -8,7 +8,7 @@ use Rattle.settings.specs.Layout.{settings_in, sound, has_dedicated_mac, mac_at,
 use Rattle.address.specs.declared.Address.{Address}
 use Rattle.address.specs.declared.Address.TheVariants.{Mac, Ipv4}
 use Rattle.address.specs.declared.Source.{Source}
-use Rattle.address.specs.declared.Source.TheVariants.{Nowhere, Settings, Flash}
+use Rattle.address.specs.declared.Source.TheVariants.{Settings, Flash}
 
 -- whether the settings hold the address that is in force: a MAC where it is dedicated, an IPv4 where it was kept (manual 5.9)
 unfoldable pub is_in_settings : Address → layout.Settings → Bool
@@ -20,13 +20,13 @@ abbrev pub flash_size : ℕ
 flash_size = 10
 
 -- nowhere where the settings are not sound, which too short ones never are, or Flash is too short (manual 5.9)
-unfoldable pub source_of : Address → List ℕ → List ℕ → Source
+unfoldable pub source_of : Address → List ℕ → List ℕ → Option Source
 source_of address settings flash =
     when sound settings then
-    (when ltb (length flash) flash_size then Nowhere else
-    when is_in_settings address (settings_in settings) then Settings else
-    Flash)
-    else Nowhere
+    (when ltb (length flash) flash_size then None else
+    when is_in_settings address (settings_in settings) then Some Settings else
+    Some Flash)
+    else None
 
 -- an address in the settings (manual 5.3), and in the Flash block (manual 5.8)
 abbrev pub settings_part : Address → Bor (List ℕ) → Slice
@@ -38,10 +38,10 @@ flash_part Mac = part_of 0 mac_size
 flash_part Ipv4 = part_of mac_size ipv4_size
 
 -- the part of its source, and an empty part of the settings where there is none (manual 5.9)
-abbrev pub shown_from : Source → Address → Bor (List ℕ) → Bor (List ℕ) → Slice
-shown_from Nowhere address settings flash = part_of 0 0 settings
-shown_from Settings address settings flash = settings_part address settings
-shown_from Flash address settings flash = flash_part address flash
+abbrev pub shown_from : Option Source → Address → Bor (List ℕ) → Bor (List ℕ) → Slice
+shown_from None address settings flash = part_of 0 0 settings
+shown_from (Some Settings) address settings flash = settings_part address settings
+shown_from (Some Flash) address settings flash = flash_part address flash
 
 -- an address in force, whatever the bytes (manual 5.9)
 unfoldable pub in_force : Address → Bor (List ℕ) → Bor (List ℕ) → Slice

@@ -1,63 +1,123 @@
-// What is carried from one case to the next: a state, a store and settings. All three are in one
-// Buffer, since a struct that is lent for change needs a proof by hand: the state's bytes at its
-// start, the sizes of the other two behind them, and then these, each with room for the largest. A
-// Buffer of zeros has a state of zeros, no store and no settings.
-use crate::buffer;
-use crate::buffer::{Buffer, part, put_all};
-use crate::number::{pair, put_u16};
-use crate::state_bytes::{STATE_SIZE, put_state, state_of};
-use outcome::Outcome;
+// The cases of transactions, on what is carried from one case to the next.
+use crate::case::{Answer, Case, CaseError};
+use crate::digest::Digest;
+use crate::states::bytes_of;
+use crate::store;
+use crate::store::pattern;
+use crate::text::{Hex, flag};
+use outcome::Reply;
+use record::Transaction;
+use state::{Account, Beside, State};
+use std::alloc::Global;
 
-pub(crate) const MAX_STORE: usize = 2048;
+// The most bytes of a store that is carried, and of a pattern that is sent.
+const MAX_PATTERN: u16 = 2048;
 
-pub(crate) const MAX_SETTINGS: usize = 64;
+const MAX_SETTINGS: usize = 64;
 
-const STORE_SIZE: usize = STATE_SIZE;
-
-const SETTINGS_SIZE: usize = STORE_SIZE + 2;
-
-const STORE: usize = 512;
-
-const SETTINGS: usize = 2560;
-
-pub(crate) fn state(carried: &Buffer) -> &[u8] {
-    part(carried, 0, STATE_SIZE)
+#[derive(Drop)]
+pub(crate) struct Carried {
+    state: State,
+    store: Vec<u8>,
+    settings: Vec<u8>,
 }
 
-pub(crate) fn store(carried: &Buffer) -> &[u8] {
-    let size = pair(carried[STORE_SIZE], carried[STORE_SIZE + 1]);
-    part(carried, STORE, STORE + size as usize)
+impl Carried {
+    pub(crate) fn new(alloc: Global) -> Carried {
+        let beside = Beside {
+            open_fragments: 0,
+            open_bytes: 0,
+            taken: 0,
+            refused: 0,
+            total: 0,
+        };
+        let account = Account {
+            grid: [0; state::CELLS],
+            beside,
+        };
+        Carried {
+            state: State {
+                account,
+                maximum: 0,
+            },
+            store: Vec::new(alloc),
+            settings: Vec::new(alloc),
+        }
+    }
+
+    pub(crate) fn start(&mut self, case: &Case) -> Answer {
+        let [state, size, seed, settings] = case.fields::<4>()?;
+        let state = state.state()?;
+        let store = short_pattern(case.alloc, size.number()?, seed.number()?)?;
+        let settings = settings.bytes();
+        if settings.len() > MAX_SETTINGS {
+            return Err(CaseError::NotACase);
+        }
+        self.state = state;
+        self.store = store;
+        self.settings = Vec::from_slice(case.alloc, settings)?;
+        flag(case.alloc, state::is_sound(state))
+    }
+
+    pub(crate) fn send(&mut self, case: &Case) -> Answer {
+        let [command, link_up, data] = case.fields::<3>()?;
+        let transaction = Transaction {
+            command: command.number()?,
+            bytes: data.bytes(),
+            link_up: link_up.flag()?,
+        };
+        self.transact(case.alloc, transaction)
+    }
+
+    pub(crate) fn send_pattern(&mut self, case: &Case) -> Answer {
+        let [command, link_up, size, seed] = case.fields::<4>()?;
+        let bytes = short_pattern(case.alloc, size.number()?, seed.number()?)?;
+        let transaction = Transaction {
+            command: command.number()?,
+            bytes: &bytes,
+            link_up: link_up.flag()?,
+        };
+        self.transact(case.alloc, transaction)
+    }
+
+    fn transact(&mut self, alloc: Global, transaction: Transaction) -> Answer {
+        let transacted = translator::transact(
+            self.state,
+            &mut self.store,
+            &mut self.settings,
+            transaction,
+        );
+        self.state = transacted.state;
+        let reply = Reply::from(transacted.outcome);
+        let state = bytes_of(alloc, self.state)?;
+        Ok(format!(in alloc;
+            "{:02x} {:04x} {:08x} {:08x} {:08x}",
+            reply.answer,
+            reply.sent,
+            Digest::of(&state),
+            Digest::of(&self.store),
+            Digest::of(&self.settings),
+        )?)
+    }
+
+    pub(crate) fn show(&self, case: &Case) -> Answer {
+        case.fields::<0>()?;
+        let bytes = bytes_of(case.alloc, self.state)?;
+        let state = Hex(&bytes);
+        let settings = Hex(&self.settings);
+        Ok(format!(in case.alloc; "{state} {settings}")?)
+    }
+
+    pub(crate) fn packet(&self, case: &Case) -> Answer {
+        let [length] = case.fields::<1>()?;
+        store::show(case.alloc, &self.store, length.number()?)
+    }
 }
 
-pub(crate) fn settings(carried: &Buffer) -> &[u8] {
-    let size = pair(carried[SETTINGS_SIZE], carried[SETTINGS_SIZE + 1]);
-    part(carried, SETTINGS, SETTINGS + size as usize)
-}
-
-// Carries these from here on. A store and settings are at most MAX_STORE and MAX_SETTINGS long.
-pub(crate) fn start(carried: &mut Buffer, state: &[u8], store: &[u8], settings: &[u8]) {
-    put_all(carried, 0, state);
-    put_u16(carried, STORE_SIZE, (store.len() % 65536) as u16);
-    put_all(carried, STORE, store);
-    put_u16(carried, SETTINGS_SIZE, (settings.len() % 65536) as u16);
-    put_all(carried, SETTINGS, settings);
-}
-
-// Does a transaction on what is carried. Two parts of one Buffer cannot be lent for change at the
-// same time, so that the store and the settings are copied out and back.
-pub(crate) fn transact(carried: &mut Buffer, command: u8, bytes: &[u8], link_up: bool) -> Outcome {
-    let state = state_of(state(carried));
-    let mut store_space = buffer::new();
-    let store_size = buffer::fill(&mut store_space, store(carried));
-    let mut settings_space = buffer::new();
-    let settings_size = buffer::fill(&mut settings_space, settings(carried));
-    let store = &mut store_space[0..store_size];
-    let settings = &mut settings_space[0..settings_size];
-    let transacted = translator::transact(state, store, settings, command, bytes, link_up);
-    let outcome = transacted.outcome;
-    let after = transacted.state;
-    put_state(carried, after);
-    put_all(carried, STORE, store);
-    put_all(carried, SETTINGS, settings);
-    outcome
+// A pattern of at most MAX_PATTERN bytes.
+fn short_pattern(alloc: Global, size: u16, seed: u8) -> Result<Vec<u8>, CaseError> {
+    if size > MAX_PATTERN {
+        return Err(CaseError::NotACase);
+    }
+    Ok(pattern(alloc, size, seed)?)
 }

@@ -77,179 +77,92 @@
 // feed.
 #![tactic(auto)]
 
-mod answer;
-mod buffer;
 mod carried;
+mod case;
 mod digest;
-mod fields;
+mod field;
 mod link;
-mod number;
-mod pattern;
 mod printed;
 mod receive_settings;
-mod state_bytes;
+mod states;
 mod status_block;
 mod store;
-mod transaction;
+mod text;
 
-use buffer::{Buffer, NOT_A_CASE};
+use address::Address;
+use carried::Carried;
+use case::{Answer, Case, CaseError};
 use std::io;
-use std::io::Read;
+use std::io::{BufRead, BufReader, Read};
 
 const MAX_LINE: usize = 8000;
+
+// More is not read into memory of a line: its characters and the line feed.
+const MAX_READ: u64 = MAX_LINE as u64 + 1;
 
 // How many bytes are read at once.
 const CHUNK: usize = 65536;
 
-// How the reading goes on: behind so many characters of a line, or not at all.
-#[derive(Clone, Copy)]
-enum Next {
-    After(usize),
-    Nothing,
-}
-
-// A proved loop has to end, and nothing says that the input does. So the loop counts its turns
-// down, from a number that no run uses up.
 fn main(rt: HostRuntime) -> io::Result<()> {
-    let mut chunk = [0u8; CHUNK];
-    let mut line = buffer::new();
-    let mut carried = buffer::new();
-    let mut end: usize = 0;
-    let mut turns = u64::MAX;
-    while turns > 0 {
-        let Next::After(next) = read_some(&rt, &mut chunk, &mut line, &mut carried, end)? else {
-            return Ok(());
-        };
-        end = next;
-        turns -= 1;
+    let mut input = BufReader::with_capacity(rt.alloc(), CHUNK, rt.stdin())?;
+    let mut line = Vec::new(rt.alloc());
+    let mut carried = Carried::new(rt.alloc());
+    // A proved loop has an end, here one that no input reaches.
+    for _ in 0..u64::MAX {
+        line.clear();
+        input.by_ref().take(MAX_READ).read_until(b'\n', &mut line)?;
+        match line.as_slice() {
+            [] => return Ok(()),
+            [line @ .., b'\n'] => print_answer(&rt, line, &mut carried)?,
+            _ => {
+                input.skip_until(b'\n')?;
+                println!(rt; "{}", CaseError::NotACase)?;
+            }
+        }
     }
     Ok(())
 }
 
-// Reads once, and answers the lines that this completes. The first `end` characters of `line` are
-// those that came before, and `carried` is what cases leave to later ones.
-fn read_some(
-    rt: &HostRuntime,
-    chunk: &mut [u8],
-    line: &mut Buffer,
-    carried: &mut Buffer,
-    end: usize,
-) -> io::Result<Next> {
-    let n = rt.stdin().read(chunk)?;
-    if n == 0 {
-        if end > 0 {
-            print(rt, b"not a case\n")?;
-        }
-        return Ok(Next::Nothing);
-    }
-    let next = take_all(rt, &chunk[..n], line, carried, end)?;
-    Ok(Next::After(next))
-}
-
-// Answers where the characters of the line that is not complete end then, as take does.
-fn take_all(
-    rt: &impl Print,
-    characters: &[u8],
-    line: &mut Buffer,
-    carried: &mut Buffer,
-    end: usize,
-) -> io::Result<usize> {
-    let mut end = end;
-    let mut i = 0;
-    while i < characters.len() {
-        end = take(rt, characters[i], line, carried, end)?;
-        i += 1;
-    }
-    Ok(end)
-}
-
-fn take(
-    rt: &impl Print,
-    character: u8,
-    line: &mut Buffer,
-    carried: &mut Buffer,
-    end: usize,
-) -> io::Result<usize> {
-    if character != b'\n' {
-        return Ok(buffer::put(line, end, character));
-    }
-    print_answer(rt, line, end, carried)?;
-    Ok(0)
-}
-
-// Prints what answers the line of the first `end` characters. It answers as print does.
-fn print_answer(
-    rt: &impl Print,
-    line: &Buffer,
-    end: usize,
-    carried: &mut Buffer,
+// Copies a line that names cases, and answers every other one.
+fn print_answer<R: Print + AllocGlobal>(
+    rt: &R,
+    line: &[u8],
+    carried: &mut Carried,
 ) -> io::Result<()> {
-    if end > MAX_LINE {
-        return print(rt, b"not a case\n");
+    if let [] | [b'#', ..] = line {
+        rt.write_all(line)?;
+        return println!(rt);
     }
-    let line = buffer::part(line, 0, end);
-    if is_copied(line) {
-        print(rt, line)?;
-        return print(rt, b"\n");
+    match Case::decode(rt.alloc(), line).and_then(|case| answer(&case, carried)) {
+        Ok(answer) => println!(rt; "{answer}"),
+        Err(error @ CaseError::NotACase) => println!(rt; "{error}"),
+        Err(CaseError::OutOfMemory(error)) => Err(error.into()),
     }
-    let mut text = buffer::new();
-    let end = put_answer(line, carried, &mut text);
-    if end == NOT_A_CASE {
-        return print(rt, b"not a case\n");
-    }
-    print(rt, buffer::part(&text, 0, end))
 }
 
-fn is_copied(line: &[u8]) -> bool {
-    if line.len() == 0 {
-        return true;
+fn answer(case: &Case, carried: &mut Carried) -> Answer {
+    match case.name {
+        b"link" => link::link(case),
+        b"links" => link::links(case),
+        b"write-status" => status_block::write(case),
+        b"read-status" => status_block::read(case),
+        b"fresh-settings" => receive_settings::fresh(case),
+        b"sound-settings" => receive_settings::sound(case),
+        b"enable" => receive_settings::enable(case),
+        b"mac" => receive_settings::in_force(case, Address::Mac),
+        b"ipv4" => receive_settings::in_force(case, Address::Ipv4),
+        b"fill" => store::fill(case),
+        b"shown" => store::shown(case),
+        b"sound-account" => states::sound_account(case),
+        b"fresh-state" => states::fresh(case),
+        b"sound-state" => states::sound(case),
+        b"start" => carried.start(case),
+        b"send" => carried.send(case),
+        b"send-pattern" => carried.send_pattern(case),
+        b"show" => carried.show(case),
+        b"packet" => carried.packet(case),
+        b"journal" => printed::journal(case),
+        b"print" => printed::account(case),
+        _ => Err(CaseError::NotACase),
     }
-    line[0] == b'#'
-}
-
-// Puts the line that answers a case at the start of text, and answers where it ends, or NOT_A_CASE.
-fn put_answer(line: &[u8], carried: &mut Buffer, text: &mut Buffer) -> usize {
-    let mut bytes = buffer::new();
-    let mut ends = [0usize; fields::MAX];
-    let count = fields::decode(line, &mut bytes, &mut ends);
-    if count == NOT_A_CASE {
-        return NOT_A_CASE;
-    }
-    let end = put_fields(&bytes, fields::first(&ends, count), carried, text);
-    answer::end_line(text, end)
-}
-
-// Puts the fields of the answer there. Each module knows its own operations, so that a case of
-// another's is NOT_A_CASE to it.
-fn put_fields(bytes: &Buffer, ends: &[usize], carried: &mut Buffer, text: &mut Buffer) -> usize {
-    let end = link::answer(bytes, ends, text);
-    if end != NOT_A_CASE {
-        return end;
-    }
-    let end = status_block::answer(bytes, ends, text);
-    if end != NOT_A_CASE {
-        return end;
-    }
-    let end = receive_settings::answer(bytes, ends, text);
-    if end != NOT_A_CASE {
-        return end;
-    }
-    let end = store::answer(bytes, ends, text);
-    if end != NOT_A_CASE {
-        return end;
-    }
-    let end = state_bytes::answer(bytes, ends, text);
-    if end != NOT_A_CASE {
-        return end;
-    }
-    let end = printed::answer(bytes, ends, text);
-    if end != NOT_A_CASE {
-        return end;
-    }
-    transaction::answer(bytes, ends, carried, text)
-}
-
-// Writes the text to standard output.
-fn print(rt: &impl Print, text: &[u8]) -> io::Result<()> {
-    rt.write_all(text)
 }

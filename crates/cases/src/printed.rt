@@ -1,88 +1,55 @@
 // The cases of journals and of the printout.
-ghost use Rattle.std.specs.Prelude.{◌≤◌};
+ghost use Rattle.std.specs.Prelude.{◌<◌};
 
-use crate::answer::{put_bytes, put_u16};
-use crate::buffer::{Buffer, NOT_A_CASE};
-use crate::state_bytes::account_of;
-use crate::{fields, pattern};
+use crate::case::{Answer, Case, CaseError};
+use crate::store::pattern;
+use crate::text::Hex;
+use journal::Reading;
+use std::alloc::{AllocError, Global};
 
-// The most room that a case of the printout has, and what it is filled with before.
-const MAX_ROOM: usize = 2048;
+// The most room that a case of the printout has, and the seed of what is there before.
+const MAX_ROOM: u16 = 2048;
 
 const SEED: u8 = 0xaa;
 
-// Answers as link::answer does.
-pub(crate) fn answer(bytes: &Buffer, ends: &[usize], text: &mut Buffer) -> usize {
-    if fields::are(bytes, ends, b"journal 2*") {
-        return answer_journal(bytes, ends, text);
-    }
-    if fields::are(bytes, ends, b"print A2") {
-        return answer_print(bytes, ends, text);
-    }
-    NOT_A_CASE
-}
-
-fn answer_journal(bytes: &Buffer, ends: &[usize], text: &mut Buffer) -> usize {
-    let piece = fields::u16_at(bytes, ends, 1) as usize;
-    let journal = fields::at(bytes, ends, 2);
+pub(crate) fn journal(case: &Case) -> Answer {
+    let [piece, journal] = case.fields::<2>()?;
     let mut out = [0u8; printout::MAX_PRINTOUT];
-    if piece == 0 {
-        let length = journal::print_journal(journal, &mut out);
-        return put_bytes(text, 0, part(&out, 0, length));
-    }
-    let length = print_fed(journal, piece, &mut out);
-    put_bytes(text, 0, part(&out, 0, length))
+    let length = match piece.number::<u16>()? {
+        0 => journal::print_journal(journal.bytes(), &mut out),
+        size => print_fed(case.alloc, journal.bytes(), size.into(), &mut out)?,
+    };
+    let printed = Hex(out.get(..length).unwrap_or_default());
+    Ok(format!(in case.alloc; "{printed}")?)
 }
 
-// Prints the outcome of a journal that is fed in pieces of so many bytes.
-fn print_fed(journal: &[u8], piece: usize, out: &mut [u8]) -> usize
-    requires { 1 ≤ piece }
+// Prints the outcome of a journal that is fed in pieces of a size.
+fn print_fed(
+    alloc: Global,
+    journal: &[u8],
+    size: usize,
+    out: &mut [u8],
+) -> Result<usize, AllocError>
+    requires { 0 < size }
 {
-    let mut reading = journal::start();
-    let mut used: usize = 0;
-    let mut end: usize = 0;
-    let mut left = journal.len();
-    while left > 0 {
-        let next = least(piece, left);
-        end += next;
-        let fed = journal::feed(reading, part(journal, used, end));
-        reading = fed.reading;
-        used += least(fed.used, end - used);
-        left -= next;
+    let mut reading = Reading::start();
+    let mut unused = Vec::new(alloc);
+    for piece in journal.chunks(size) {
+        unused.extend_from_slice(piece)?;
+        let used = reading.feed(&unused);
+        unused.drain(..used);
     }
-    journal::conclude(reading, end - used, out)
+    Ok(reading.conclude(unused.len(), out))
 }
 
-fn answer_print(bytes: &Buffer, ends: &[usize], text: &mut Buffer) -> usize {
-    let room = fields::u16_at(bytes, ends, 2) as usize;
-    if MAX_ROOM < room {
-        return NOT_A_CASE;
+pub(crate) fn account(case: &Case) -> Answer {
+    let [account, room] = case.fields::<2>()?;
+    let room = room.number()?;
+    if room > MAX_ROOM {
+        return Err(CaseError::NotACase);
     }
-    let mut space = [0u8; MAX_ROOM];
-    let out = &mut space[0..room];
-    pattern::fill(out, SEED);
-    let account = account_of(fields::at(bytes, ends, 1));
-    let length = printout::print(account, out);
-    let end = put_u16(text, 0, (length % 65536) as u16);
-    put_bytes(text, end, out)
-}
-
-// The bytes from `start` up to, not including, `end`, or none where there is no such part.
-fn part(bytes: &[u8], start: usize, end: usize) -> &[u8] {
-    if bytes.len() < end {
-        return &bytes[0..0];
-    }
-    if end < start {
-        return &bytes[0..0];
-    }
-    &bytes[start..end]
-}
-
-fn least(a: usize, b: usize) -> usize
-    ensures { (result ≤ a) × (result ≤ b) × (1 ≤ a → 1 ≤ b → 1 ≤ result) }
-{
-    if a < b {
-        return a;
-    }
-    b
+    let mut out = pattern(case.alloc, room, SEED)?;
+    let length = printout::print(account.account()?, &mut out);
+    let buffer = Hex(&out);
+    Ok(format!(in case.alloc; "{length:04x} {buffer}")?)
 }

@@ -11,7 +11,7 @@ use Rattle.prelude.specs.After.{After, after}
 use Rattle.prelude.specs.Choice.{when◌then◌else◌}
 use Rattle.prelude.specs.Parts.{Slice, slice_of, part_of}
 use Rattle.packet.specs.Store.{max_packet, shown}
-use Rattle.record.specs.Transaction.{Transaction, transaction}
+use Rattle.record.specs.Transaction.{Transaction}
 use Rattle.outcome.specs.Outcome.{reply_to}
 use Rattle.translator.specs.declared.Transacted.{Transacted}
 use Rattle.translator.specs.Transact.{transacted}
@@ -20,7 +20,7 @@ use Rattle.history.specs.Contract.{TransactIsStep, ShownIsCompared}
 
 pub transact-is-step : TransactIsStep
 transact-is-step κs a result exit kept store_lent settings_lent same-state same-store same-settings learnt =
-    let t : Transaction = transaction a.1.1.1.0 a.1.1.1.1.0.now a.1.1.1.1.1.0 in
+    let t : Transaction = a.1.1.1.0 in
     let same : transacted a.0 a.1.0.now a.1.1.0.now t ≡ transacted_by store_lent settings_lent t kept = rw (same-state, same-store, same-settings) in
     let left_is : after result exit.1.0.now exit.1.1.0.now ≡ transacted_by store_lent settings_lent t kept = learnt ∙ same in
     record {

@@ -4,13 +4,16 @@ use Prim.Native.Nat.{ℕ, ◌+◌, ◌*◌, ◌<◌}
 use mathlib.Core.List.{List, [], ◌∷◌, ◌++◌, append-nil}
 use mathlib.Core.Path.{◌≡◌, refl, sym, ap, ◌∙◌, subst}
 use native.Mathlib.Omega.{arith}
+use Rattle.std.specs.Prelude.{Option, None, Some}
 use lib.Dec.{eqb, ltb}
 use lib.ListN.{length}
 use borrow.Author.Tests.{eqb-true, eqb-false, ne_eqb, eq-eqb, lt-ltb}
 use Rattle.prelude.specs.Choice.{when◌then◌else◌}
 use Rattle.prelude.proofs.Tests.{if-true, if-false, if-cases}
 use Rattle.state.specs.declared.Account.{Account}
-use Rattle.state.specs.Account.{row_count, columns, no_row, packets_in, fragments_in, bytes_in, Formed, account_of}
+use Rattle.state.specs.declared.row.Row.{Row}
+use Rattle.state.specs.declared.row.Row.TheVariants as the_row
+use Rattle.state.specs.Account.{row_count, columns, no_row, place_of, row_number, packets_in, fragments_in, bytes_in, Formed, account_of}
 use Rattle.outcome.specs.declared.Outcome.{Outcome}
 use Rattle.translator.specs.Counting as counting
 use Rattle.translator.specs.Judge.{judged, ends_in}
@@ -30,6 +33,29 @@ row-in-grid short = omega arith
 row-in-grid linkdown = omega arith
 row-in-grid aborted = omega arith
 row-in-grid badlength = omega arith
+
+-- the row of a fate
+abbrev pub fate_row : Fate → Row
+fate_row sent = the_row.Sent
+fate_row superseded = the_row.Superseded
+fate_row flushed = the_row.Flushed
+fate_row broken = the_row.Broken
+fate_row over = the_row.Over
+fate_row short = the_row.Short
+fate_row linkdown = the_row.LinkDown
+fate_row aborted = the_row.Aborted
+fate_row badlength = the_row.BadLength
+
+fate-place : (fate : Fate) → place_of (fate_row fate) ≡ row_of fate
+fate-place sent = refl
+fate-place superseded = refl
+fate-place flushed = refl
+fate-place broken = refl
+fate-place over = refl
+fate-place short = refl
+fate-place linkdown = refl
+fate-place aborted = refl
+fate-place badlength = refl
 
 pub in-other-line : (line : Line) (count : ℕ) (other : Line) → (line_number line ≡ line_number other → ⊥) → in_line line count other ≡ 0
 unfolding in_line
@@ -112,8 +138,8 @@ adds-item fate item e = record {
     elsewhere : (c : Column) (other : Line) → (row_of fate ≡ line_number other → ⊥) → count_in (item ∷ []) other c ≡ 0
     elsewhere c other n = omega (arith, ap (λ (line : Line). in_line line (amount item c) other) e, in-other-line (row fate) (amount item c) other n)
 
-pub adds_run : (fate : Fate) (pieces : List (List ℕ)) (f b : ℕ) → f ≡ length pieces → b ≡ total_of pieces → Adds (row_of fate) 1 f b 0 0 (run pieces (row fate) ∷ [])
-adds_run fate pieces f b ef eb = rw (ef, eb) (adds-item fate (run pieces (row fate)) refl)
+pub adds_run : (fate : Fate) (pieces : List (List ℕ)) (f b : ℕ) → f ≡ length pieces → b ≡ total_of pieces → Adds (place_of (fate_row fate)) 1 f b 0 0 (run pieces (row fate) ∷ [])
+adds_run fate pieces f b ef eb = rw (fate-place fate, ef, eb) (adds-item fate (run pieces (row fate)) refl)
 
 pub adds-alone : (fate : Fate) (piece : List ℕ) → Adds (row_of fate) 0 1 (length piece) 0 0 (alone piece (row fate) ∷ [])
 adds-alone fate piece =
@@ -138,19 +164,19 @@ adds-refused = record {
 }
 
 -- the packet that ends, if one is open
-pub adds-closing : (fate : Fate) (held : List (List ℕ)) (f b : ℕ) → f ≡ length held → b ≡ total_of held → Adds (ends_in (row_of fate) f) 1 f b 0 0 (closing (row fate) held)
+pub adds-closing : (fate : Fate) (held : List (List ℕ)) (f b : ℕ) → f ≡ length held → b ≡ total_of held → Adds (row_number (ends_in (fate_row fate) f)) 1 f b 0 0 (closing (row fate) held)
 unfolding ends_in
 adds-closing fate [] f b ef eb =
-    if-cases (λ (at : ℕ). Adds at 1 f b 0 0 []) (ltb 0 f) (row_of fate) no_row
+    if-cases (λ (at : Option Row). Adds (row_number at) 1 f b 0 0 []) (ltb 0 f) (Some (fate_row fate)) None
     (λ e. absurd (omega (arith, borrow.Author.Tests.ltb-true 0 f e, ef))) (λ _. adds_none 1 f b)
-adds-closing fate (p ∷ ps) f b ef eb = rw (if-true (ltb 0 f) (row_of fate) no_row (lt-ltb 0 f (omega (arith, ef)))) (adds_run fate (p ∷ ps) f b ef eb)
+adds-closing fate (p ∷ ps) f b ef eb = rw (if-true (ltb 0 f) (Some (fate_row fate)) None (lt-ltb 0 f (omega (arith, ef)))) (adds_run fate (p ∷ ps) f b ef eb)
 
 -- nothing of it is left open then
-pub left-none : (fate : Fate) (held : List (List ℕ)) (f n : ℕ) → f ≡ length held → (f ≡ 0 → n ≡ 0) → counting.left_open (ends_in (row_of fate) f) n ≡ 0
+pub left-none : (fate : Fate) (held : List (List ℕ)) (f n : ℕ) → f ≡ length held → (f ≡ 0 → n ≡ 0) → counting.left_open (row_number (ends_in (fate_row fate) f)) n ≡ 0
 unfolding ends_in counting.left_open
 left-none fate held f n ef none =
-    if-cases (λ (at : ℕ). (when ltb at row_count then 0 else n) ≡ 0) (ltb 0 f) (row_of fate) no_row
-    (λ _. if-true _ _ _ (lt-ltb _ _ (row-in-grid fate)))
+    if-cases (λ (at : Option Row). (when ltb (row_number at) row_count then 0 else n) ≡ 0) (ltb 0 f) (Some (fate_row fate)) None
+    (λ _. if-true _ _ _ (lt-ltb _ _ (rw (fate-place fate) (row-in-grid fate))))
     (λ e. if-false (ltb no_row row_count) 0 n refl ∙ none (omega (arith, borrow.Author.Tests.ltb-false 0 f e)))
 
 pub left-all : (n : ℕ) → counting.left_open no_row n ≡ n
@@ -173,34 +199,34 @@ none-held [] f b ef eb none = eb
 none-held (p ∷ ps) f b ef eb none = absurd (omega (arith, ef, none))
 
 -- a transaction is counted: the packet that it ends, and its own line
-pub counted-counts : {held : List (List ℕ)} {done : List Item} {total : ℕ} (o : Outcome) (ends size : ℕ) (a : Account) → Counts a held done total
+pub counted-counts : {held : List (List ℕ)} {done : List Item} {total : ℕ} (o : Outcome) (ends : Option Row) (size : ℕ) (a : Account) → Counts a held done total
     → (held_after : List (List ℕ)) (closed own : List Item)
-    → Adds ends 1 a.beside.open_fragments a.beside.open_bytes 0 0 closed
-    → (at p f b open_fragments open_bytes k q : ℕ)
-    → counting.tally_of o (counting.left_open ends a.beside.open_fragments) (counting.left_open ends a.beside.open_bytes) size ≡ counting.tally at p f b open_fragments open_bytes k q
-    → Adds at p f b k q own → open_fragments ≡ length held_after → open_bytes ≡ total_of held_after
+    → Adds (row_number ends) 1 a.beside.open_fragments a.beside.open_bytes 0 0 closed
+    → (at : Option Row) (p f b open_fragments open_bytes k q : ℕ)
+    → counting.tally_of o (counting.left_open (row_number ends) a.beside.open_fragments) (counting.left_open (row_number ends) a.beside.open_bytes) size ≡ counting.tally at p f b open_fragments open_bytes k q
+    → Adds (row_number at) p f b k q own → open_fragments ≡ length held_after → open_bytes ≡ total_of held_after
     → Counts (counting.counted (judged o ends size) a) held_after ((done ++ closed) ++ own) (1 + total)
 unfolding counting.counted counting.grid_after
 counted-counts {held} {done} {total} o ends size a i held_after closed own closes at p f b open_fragments open_bytes k q e mine ef eb =
-    subst (λ t. Counts (account_of (counting.grid_after ends a.beside t a.grid) (counting.beside_after t a.beside)) held_after ((done ++ closed) ++ own) (1 + total)) (sym e)
+    subst (λ t. Counts (account_of (counting.grid_after (row_number ends) a.beside t a.grid) (counting.beside_after t a.beside)) held_after ((done ++ closed) ++ own) (1 + total)) (sym e)
     (record {
-      formed = added-formed first ends 1 a.beside.open_fragments a.beside.open_bytes first-formed;
+      formed = added-formed first (row_number ends) 1 a.beside.open_fragments a.beside.open_bytes first-formed;
       total_is = omega (arith, i.total_is);
       held_fragments = ef;
       held_bytes = eb;
       cells = λ fate c.
-          cell-added ends 1 a.beside.open_fragments a.beside.open_bytes first fate c first-formed
-          ∙ omega (arith, cell-added at p f b a.grid fate c i.formed, i.cells fate c, closes.in_rows fate c, mine.in_rows fate c, sum (row fate) c);
+          cell-added (row_number ends) 1 a.beside.open_fragments a.beside.open_bytes first fate c first-formed
+          ∙ omega (arith, cell-added (row_number at) p f b a.grid fate c i.formed, i.cells fate c, closes.in_rows fate c, mine.in_rows fate c, sum (row fate) c);
       taken-are = omega (arith, i.taken-are, closes.in_taken, mine.in_taken, sum taken fragments);
       refused-are = omega (arith, i.refused-are, closes.in-refused, mine.in-refused, sum refused fragments);
       none_open = λ c. omega (arith, i.none_open c, closes.none_open c, mine.none_open c, sum opened c);
     })
   where
     first : List ℕ
-    first = counting.add_to at p f b a.grid
+    first = counting.add_to (row_number at) p f b a.grid
 
     first-formed : length first ≡ row_count * columns
-    first-formed = added-formed a.grid at p f b i.formed
+    first-formed = added-formed a.grid (row_number at) p f b i.formed
 
     sum : (line : Line) (c : Column) → count_in ((done ++ closed) ++ own) line c ≡ count_in done line c + count_in closed line c + count_in own line c
     sum line c = count-append (done ++ closed) own line c ∙ ap (λ (n : ℕ). n + count_in own line c) (count-append done closed line c)

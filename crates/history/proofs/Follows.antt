@@ -5,6 +5,7 @@ use mathlib.Core.Bool.{Bool, true, false, not}
 use mathlib.Core.List.{List, [], ◌∷◌, ◌++◌, append-nil}
 use mathlib.Core.Path.{◌≡◌, refl, sym, ap, ◌∙◌, subst}
 use native.Mathlib.Omega.{arith}
+use Rattle.std.specs.Prelude.{Option, None}
 use lib.Dec.{eqb, ltb, leb}
 use lib.ListN.{length, length-append}
 use borrow.Author.Tests.{ltb-false, lt-ltb, le-ltb, leb-true, leb-false, ne_eqb}
@@ -13,7 +14,8 @@ use Rattle.prelude.proofs.Tests.{if-false}
 use Rattle.packet.specs.Store.{max_packet, min_packet, filled}
 use Rattle.packet.specs.Store as store_of
 use Rattle.state.specs.declared.Account.{Account}
-use Rattle.state.specs.Account.{no_row}
+use Rattle.state.specs.declared.row.Row.{Row}
+use Rattle.state.specs.Account.{no_row, row_number}
 use Rattle.outcome.specs.declared.Cause.TheVariants as cause
 use Rattle.outcome.specs.declared.Outcome.{Outcome}
 use Rattle.outcome.specs.declared.Outcome.TheVariants as outcome
@@ -30,7 +32,7 @@ use Rattle.history.specs.Runs.{Role, begins, goes_on, ends, passes, Item, run, a
 use Rattle.history.specs.Replies.{answered, last_reply, taken_reply, reply_on}
 use Rattle.history.specs.Calls.{packets_of}
 use Rattle.history.proofs.Cutting.{held_on, closing, closed, own, Alone, of-3, of-7, of-8, of-9, of-10, of-11, alone-not-sent, sent-append}
-use Rattle.history.proofs.Counts.{Counts, Adds, adds_none, adds_run, adds-alone, adds-closing, left-none, left-all, none-held, counted-counts}
+use Rattle.history.proofs.Counts.{fate_row, Counts, Adds, adds_none, adds_run, adds-alone, adds-closing, left-none, left-all, none-held, counted-counts}
 use Rattle.history.proofs.Holds.{Holds, holds-nothing, written-holds, filled-length, sent-shown}
 
 -- two choices by one test
@@ -76,13 +78,13 @@ module _ (a : Account) (held : List (List ℕ)) (done : List Item) (total : ℕ)
   open_bytes = a.beside.open_bytes
 
   -- an outcome with the row of the packet that it ends and the bytes that it counts, and the store that it leaves
-  pub record Goes (o : Outcome) (ending bytes : ℕ) (store : List ℕ) (held_after : List (List ℕ)) (closes owns : List Item) (reply : Reply) : Type 0 where
+  pub record Goes (o : Outcome) (ending : Option Row) (bytes : ℕ) (store : List ℕ) (held_after : List (List ℕ)) (closes owns : List Item) (reply : Reply) : Type 0 where
     pub counts-are : Counts (counting.counted (judge.judged o ending bytes) a) held_after ((done ++ closes) ++ owns) (1 + total)
     pub holds : Holds size store held_after
     pub sent_are : before ++ packets_of (reply_to o) (store ++ rest) ≡ packets_sent ((done ++ closes) ++ owns)
     pub reply_is : reply_to o ≡ reply
 
-  abbrev pub Follows : Outcome → ℕ → ℕ → List ℕ → Role → Type 0
+  abbrev pub Follows : Outcome → Option Row → ℕ → List ℕ → Role → Type 0
   Follows o ending bytes store role = Goes o ending bytes store (held_on role held) (closed role held) (own role held) (reply_on role held)
 
   -- what was sent, where the packet that ends was not
@@ -93,9 +95,9 @@ module _ (a : Account) (held : List (List ℕ)) (done : List Item) (total : ℕ)
       ∙ (ap (λ (ps : List (List ℕ)). packets_sent done ++ ps) is ∙ ap (λ (ps : List (List ℕ)). ps ++ more) (sym sent-before))))
 
   -- a fragment joins these fragments, behind the packet that it ends
-  module _ (joining : List (List ℕ)) (piece : List ℕ) (at ending : ℕ) (closes : List Item) (at-is : at ≡ total_of joining)
-      (left-fragments : counting.left_open ending open_fragments ≡ length joining) (left-bytes : counting.left_open ending open_bytes ≡ total_of joining)
-      (closes-adds : Adds ending 1 open_fragments open_bytes 0 0 closes) (closes-unsent : packets_sent closes ≡ []) (link_up : Bool) (store : List ℕ) (holds : Holds size store joining) where
+  module _ (joining : List (List ℕ)) (piece : List ℕ) (at : ℕ) (ending : Option Row) (closes : List Item) (at-is : at ≡ total_of joining)
+      (left-fragments : counting.left_open (row_number ending) open_fragments ≡ length joining) (left-bytes : counting.left_open (row_number ending) open_bytes ≡ total_of joining)
+      (closes-adds : Adds (row_number ending) 1 open_fragments open_bytes 0 0 closes) (closes-unsent : packets_sent closes ≡ []) (link_up : Bool) (store : List ℕ) (holds : Holds size store joining) where
     abbrev pieces : List (List ℕ)
     pieces = joining ++ piece ∷ []
 
@@ -105,10 +107,10 @@ module _ (a : Account) (held : List (List ℕ)) (done : List Item) (total : ℕ)
     store-holds : Holds size store_left pieces
     store-holds = rw at-is (written-holds store piece joining holds)
 
-    more-fragments : counting.left_open ending open_fragments + 1 ≡ length pieces
+    more-fragments : counting.left_open (row_number ending) open_fragments + 1 ≡ length pieces
     more-fragments = sym (length-append joining (piece ∷ []) ∙ omega (arith, left-fragments))
 
-    more_bytes : counting.left_open ending open_bytes + length piece ≡ total_of pieces
+    more_bytes : counting.left_open (row_number ending) open_bytes + length piece ≡ total_of pieces
     more_bytes = sym (total-snoc joining piece ∙ omega (arith, left-bytes))
 
     open-goes : Goes outcome.Joined ending (length piece) store_left pieces closes [] (answered 0)
@@ -127,7 +129,7 @@ module _ (a : Account) (held : List (List ℕ)) (done : List Item) (total : ℕ)
         (record { answer = answer; sent = when eqb answer 1 then sent_length (total_of pieces) else 0 })
 
     ended-counts : (o : Outcome) (fate : Fate)
-        → counting.tally_of o (counting.left_open ending open_fragments) (counting.left_open ending open_bytes) (length piece) ≡ counting.whole (row_of fate) (counting.left_open ending open_fragments) (counting.left_open ending open_bytes) (length piece)
+        → counting.tally_of o (counting.left_open (row_number ending) open_fragments) (counting.left_open (row_number ending) open_bytes) (length piece) ≡ counting.whole (fate_row fate) (counting.left_open (row_number ending) open_fragments) (counting.left_open (row_number ending) open_bytes) (length piece)
         → Counts (counting.counted (judge.judged o ending (length piece)) a) [] ((done ++ closes) ++ run pieces (row fate) ∷ []) (1 + total)
     ended-counts o fate e =
         counted-counts o ending (length piece) a counts [] closes (run pieces (row fate) ∷ []) closes-adds _ _ _ _ _ _ _ _ e (adds_run fate pieces _ _ more-fragments more_bytes) refl refl
@@ -201,10 +203,10 @@ module _ (a : Account) (held : List (List ℕ)) (done : List Item) (total : ℕ)
 
     first-follows :
         (let s : join.Stored Outcome = join.joined 0 piece last link_up store in
-        Follows s.result (judge.ends_in (row_of superseded) open_fragments) (length piece) s.store (begins last piece link_up))
+        Follows s.result (judge.ends_in (fate_row superseded) open_fragments) (length piece) s.store (begins last piece link_up))
     first-follows =
         by-last last
-        (joined-goes [] piece 0 (judge.ends_in (row_of superseded) open_fragments) (closing (row superseded) held) refl
+        (joined-goes [] piece 0 (judge.ends_in (fate_row superseded) open_fragments) (closing (row superseded) held) refl
         (left-none superseded held open_fragments open_fragments counts.held_fragments (λ none. none))
         (left-none superseded held open_fragments open_bytes counts.held_fragments (none-held held open_fragments open_bytes counts.held_fragments counts.held_bytes))
         (adds-closing superseded held open_fragments open_bytes counts.held_fragments counts.held_bytes)
@@ -213,9 +215,9 @@ module _ (a : Account) (held : List (List ℕ)) (done : List Item) (total : ℕ)
         by-last : (l : Bool)
             → ((l : Bool)
             → (let s : join.Stored Outcome = join.joined 0 piece l link_up store in
-            Goes s.result (judge.ends_in (row_of superseded) open_fragments) (length piece) s.store (after_last l (piece ∷ [])) (closing (row superseded) held) (completes l link_up (piece ∷ [])) (taken_reply l link_up (piece ∷ []))))
+            Goes s.result (judge.ends_in (fate_row superseded) open_fragments) (length piece) s.store (after_last l (piece ∷ [])) (closing (row superseded) held) (completes l link_up (piece ∷ [])) (taken_reply l link_up (piece ∷ []))))
             → (let s : join.Stored Outcome = join.joined 0 piece l link_up store in
-            Follows s.result (judge.ends_in (row_of superseded) open_fragments) (length piece) s.store (begins l piece link_up))
+            Follows s.result (judge.ends_in (fate_row superseded) open_fragments) (length piece) s.store (begins l piece link_up))
         by-last true goes = goes true
         by-last false goes = goes false
 
@@ -229,10 +231,10 @@ module _ (a : Account) (held : List (List ℕ)) (done : List Item) (total : ℕ)
             let role : Role = goes_on l piece link_up in
             Goes s.result.outcome s.result.ends s.result.bytes s.store (held_on role h) (closed role h) (own role h) (reply_on role h)
 
-        none-goes : held ≡ [] → Goes (outcome.Discarded cause.Aborted) no_row (length piece) store [] [] (alone piece (line_of 2) ∷ []) (answered 2)
+        none-goes : held ≡ [] → Goes (outcome.Discarded cause.Aborted) None (length piece) store [] [] (alone piece (line_of 2) ∷ []) (answered 2)
         none-goes e = record {
           counts-are =
-              counted-counts (outcome.Discarded cause.Aborted) no_row (length piece) a counts [] [] (alone piece (line_of 2) ∷ []) (adds_none 1 open_fragments open_bytes) _ _ _ _ _ _ _ _ refl
+              counted-counts (outcome.Discarded cause.Aborted) None (length piece) a counts [] [] (alone piece (line_of 2) ∷ []) (adds_none 1 open_fragments open_bytes) _ _ _ _ _ _ _ _ refl
               (adds-alone aborted piece) (left-all open_fragments ∙ (counts.held_fragments ∙ ap length e)) (left-all open_bytes ∙ (counts.held_bytes ∙ ap total_of e));
           holds = holds-nothing store holds.size_is holds.room;
           sent_are = sent-then [] (alone piece (line_of 2) ∷ []) [] refl refl;
@@ -241,9 +243,9 @@ module _ (a : Account) (held : List (List ℕ)) (done : List Item) (total : ℕ)
 
         some-goes : (p : List ℕ) (ps : List (List ℕ)) → held ≡ p ∷ ps → (l : Bool)
             → (let s : join.Stored Outcome = join.joined open_bytes piece l link_up store in
-            Goes s.result no_row (length piece) s.store (after_last l ((p ∷ ps) ++ piece ∷ [])) [] (completes l link_up ((p ∷ ps) ++ piece ∷ [])) (taken_reply l link_up ((p ∷ ps) ++ piece ∷ [])))
+            Goes s.result None (length piece) s.store (after_last l ((p ∷ ps) ++ piece ∷ [])) [] (completes l link_up ((p ∷ ps) ++ piece ∷ [])) (taken_reply l link_up ((p ∷ ps) ++ piece ∷ [])))
         some-goes p ps e =
-            joined-goes (p ∷ ps) piece open_bytes no_row [] (counts.held_bytes ∙ ap total_of e)
+            joined-goes (p ∷ ps) piece open_bytes None [] (counts.held_bytes ∙ ap total_of e)
             (left-all open_fragments ∙ (counts.held_fragments ∙ ap length e)) (left-all open_bytes ∙ (counts.held_bytes ∙ ap total_of e))
             (adds_none 1 open_fragments open_bytes) refl link_up store (subst (Holds size store) e holds)
 
@@ -257,7 +259,7 @@ module _ (a : Account) (held : List (List ℕ)) (done : List Item) (total : ℕ)
     unfolding judge.bad_length packets_of when◌then◌else◌
     bad-follows = record {
       counts-are =
-          counted-counts (outcome.Discarded cause.BadLength) (judge.ends_in (row_of broken) open_fragments) 0 a counts [] (closing (row broken) held) (alone [] (line_of 3) ∷ [])
+          counted-counts (outcome.Discarded cause.BadLength) (judge.ends_in (fate_row broken) open_fragments) 0 a counts [] (closing (row broken) held) (alone [] (line_of 3) ∷ [])
           (adds-closing broken held open_fragments open_bytes counts.held_fragments counts.held_bytes) _ _ _ _ _ _ _ _ refl (adds-alone badlength [])
           (left-none broken held open_fragments open_fragments counts.held_fragments (λ none. none))
           (left-none broken held open_fragments open_bytes counts.held_fragments (none-held held open_fragments open_bytes counts.held_fragments counts.held_bytes));
@@ -288,7 +290,7 @@ module _ (a : Account) (held : List (List ℕ)) (done : List Item) (total : ℕ)
 
   -- a command ends the packet as flushed, or passes
   module _ (store : List ℕ) (holds : Holds size store held) (o : Outcome) (answer k q : ℕ) (stands : Alone answer) (reply : reply_to o ≡ answered answer)
-      (tally : (f b : ℕ) → counting.tally_of o f b 0 ≡ counting.tally no_row 0 0 0 f b k q) (adds : Adds no_row 0 0 0 k q (alone [] (line_of answer) ∷ [])) where
+      (tally : (f b : ℕ) → counting.tally_of o f b 0 ≡ counting.tally None 0 0 0 f b k q) (adds : Adds no_row 0 0 0 k q (alone [] (line_of answer) ∷ [])) where
     none-sent : packets_of (reply_to o) (store ++ rest) ≡ []
     unfolding packets_of when◌then◌else◌
     none-sent = ap (λ (r : Reply). packets_of r (store ++ rest)) reply ∙ by_answer answer stands
@@ -301,10 +303,10 @@ module _ (a : Account) (held : List (List ℕ)) (done : List Item) (total : ℕ)
         by_answer _ of-10 = refl
         by_answer _ of-11 = refl
 
-    pub flush-follows : Follows o (judge.ends_in (row_of flushed) open_fragments) 0 store (ends flushed answer)
+    pub flush-follows : Follows o (judge.ends_in (fate_row flushed) open_fragments) 0 store (ends flushed answer)
     flush-follows = record {
       counts-are =
-          counted-counts o (judge.ends_in (row_of flushed) open_fragments) 0 a counts [] (closing (row flushed) held) (alone [] (line_of answer) ∷ [])
+          counted-counts o (judge.ends_in (fate_row flushed) open_fragments) 0 a counts [] (closing (row flushed) held) (alone [] (line_of answer) ∷ [])
           (adds-closing flushed held open_fragments open_bytes counts.held_fragments counts.held_bytes) _ _ _ _ _ _ _ _ (tally _ _) adds
           (left-none flushed held open_fragments open_fragments counts.held_fragments (λ none. none))
           (left-none flushed held open_fragments open_bytes counts.held_fragments (none-held held open_fragments open_bytes counts.held_fragments counts.held_bytes));
@@ -313,10 +315,10 @@ module _ (a : Account) (held : List (List ℕ)) (done : List Item) (total : ℕ)
       reply_is = reply;
     }
 
-    pub pass-follows : Follows o no_row 0 store (passes answer)
+    pub pass-follows : Follows o None 0 store (passes answer)
     pass-follows = record {
       counts-are =
-          counted-counts o no_row 0 a counts held [] (alone [] (line_of answer) ∷ []) (adds_none 1 open_fragments open_bytes) _ _ _ _ _ _ _ _ (tally _ _) adds
+          counted-counts o None 0 a counts held [] (alone [] (line_of answer) ∷ []) (adds_none 1 open_fragments open_bytes) _ _ _ _ _ _ _ _ (tally _ _) adds
           (left-all open_fragments ∙ counts.held_fragments) (left-all open_bytes ∙ counts.held_bytes);
       holds = holds;
       sent_are = rw none-sent (sent-then [] (alone [] (line_of answer) ∷ []) [] refl (alone-not-sent answer stands));

@@ -5,6 +5,7 @@ use mathlib.Core.Bool.{Bool, true, false}
 use mathlib.Core.List.{List, [], ◌∷◌, ◌++◌, append_assoc, append-nil}
 use mathlib.Core.Path.{◌≡◌, refl, sym, ap, ◌∙◌, subst}
 use native.Mathlib.Omega.{arith}
+use Rattle.std.specs.Prelude.{Option, None}
 use lib.ListN.{length, take, drop, length-take, length-drop, length-append, take-append-drop, get_or-append}
 use lib.Seq.{length_front, take-take, take_at, drop_at}
 use borrow.Author.Tests.{le-ltb, lt-ltb, leb-true, leb-false, ne_eqb, eq-eqb}
@@ -13,12 +14,12 @@ use Rattle.prelude.specs.Choice.{when◌then◌else◌, ◌and◌}
 use Rattle.prelude.proofs.Tests.{if-true, if-false, if-first, if-second}
 use Rattle.packet.specs.Store.{max_packet}
 use Rattle.record.specs.Transaction.{Transaction, transaction}
-use Rattle.settings.specs.declared.enable.Enabled.{Enabled}
 use Rattle.settings.specs.Layout as layout
 use Rattle.settings.specs.Enable as enable
 use Rattle.state.specs.declared.State.{State}
 use Rattle.state.specs.Account.{limit}
 use Rattle.state.specs.Sound.{sound}
+use Rattle.state.specs.declared.row.Row.{Row}
 use Rattle.outcome.specs.declared.Outcome.{Outcome}
 use Rattle.outcome.specs.declared.Outcome.TheVariants as outcome
 use Rattle.outcome.specs.Outcome.{reply_to}
@@ -27,7 +28,7 @@ use Rattle.translator.specs.Command.{class_in, has_both_flags}
 use Rattle.translator.specs.Judge as judge
 use Rattle.translator.specs.Transact as transact
 use Rattle.translator.proofs.Properties.{every-transaction}
-use Rattle.history.specs.Lines.{flushed, row_of}
+use Rattle.history.specs.Lines.{flushed}
 use Rattle.history.specs.Packets.{compared_from}
 use Rattle.history.specs.Reading.{Entry, counted, total, Setup, is_fragment}
 use Rattle.history.specs.Settings.{settings_of, enable_answer, taken_forms, is_mac_kept}
@@ -36,7 +37,7 @@ use Rattle.history.specs.Replies.{answered, reply_at}
 use Rattle.history.specs.Calls.{Call, Kept, transacted_by, reply_of, packets_of, left_by, step, has_room}
 use Rattle.history.specs.Calls as calls
 use Rattle.history.proofs.Cutting.{of-7, of-8, of-9, of-10, of-11, held_on, so-far-on, done_back}
-use Rattle.history.proofs.Counts.{Counts, adds-taken, adds-refused}
+use Rattle.history.proofs.Counts.{fate_row, Counts, adds-taken, adds-refused}
 use Rattle.history.proofs.Holds.{Holds, stored-lent, stored-whole}
 use Rattle.history.proofs.Settings.{settings-size, AnswersAs, as-taken, as-bad-form, as-bad-control, as-no-mac, enable-reads, other-forms}
 use Rattle.history.proofs.Follows.{fragment_role, Follows, fragment-follows, flush-follows, pass-follows}
@@ -190,7 +191,7 @@ module _ (setup : Setup) (store settings : List ℕ) (start : 15 ≤ length sett
     holds = stored-lent lent_store store_rest held store-room (rw (take-append-drop n kept.store) r.stored)
 
     -- what is shown of what a command comes to
-    record Served (c : ℕ) (o : Outcome) (ending size : ℕ) (store-after settings-after : List ℕ) : Type 0 where
+    record Served (c : ℕ) (o : Outcome) (ending : Option Row) (size : ℕ) (store-after settings-after : List ℕ) : Type 0 where
       follows : Follows kept.state.account held (done_back (roles_back setup earlier)) (total earlier) r.counts kept.sent r.sent_are (length lent_store) store_rest
           o ending size store-after (role_of setup (is_mac_kept earlier) (transaction c bytes link_up))
       leaves : settings-after ≡ settings_of (taken_forms (counted (transaction c bytes link_up) ∷ earlier)) ++ drop 15 lent_settings
@@ -235,8 +236,8 @@ module _ (setup : Setup) (store settings : List ℕ) (start : 15 ≤ length sett
           leaves = reads.leaves;
         }
       where
-        by_answer : (e : Enabled) (answer : ℕ) → AnswersAs e answer
-            → (let j = judge.enabled_as e (judge.ends_in (row_of flushed) kept.state.account.beside.open_fragments) in
+        by_answer : (e : enable.Answer) (answer : ℕ) → AnswersAs e answer
+            → (let j = judge.enabled_as e (judge.ends_in (fate_row flushed) kept.state.account.beside.open_fragments) in
             Follows kept.state.account held (done_back (roles_back setup earlier)) (total earlier) r.counts kept.sent r.sent_are (length lent_store) store_rest
             j.outcome j.ends j.bytes lent_store (ends flushed answer))
         by_answer _ _ as-taken =
@@ -259,7 +260,7 @@ module _ (setup : Setup) (store settings : List ℕ) (start : 15 ≤ length sett
         (record { follows = rw (unknown-role setup (is_mac_kept earlier) c bytes link_up n₁ n₂ n₃ n₄ n₅) (by_flags (has_both_flags c)); leaves = settings-stay c n₅ })
       where
         by_flags : (both : Bool)
-            → (let j = when both then judge.judged outcome.Unknown (judge.ends_in (row_of flushed) kept.state.account.beside.open_fragments) 0 else judge.judged outcome.Unknown 9 0 in
+            → (let j = when both then judge.judged outcome.Unknown (judge.ends_in (fate_row flushed) kept.state.account.beside.open_fragments) 0 else judge.judged outcome.Unknown None 0 in
             Follows kept.state.account held (done_back (roles_back setup earlier)) (total earlier) r.counts kept.sent r.sent_are (length lent_store) store_rest
             j.outcome j.ends j.bytes lent_store (when both then ends flushed 7 else passes 7))
         by_flags true =

@@ -14,8 +14,7 @@ use Rattle.prelude.specs.Choice.{when◌then◌else◌, ◌and◌, ◌or◌}
 use Rattle.prelude.proofs.Lists.{length_part, drop_past}
 use Rattle.prelude.proofs.Tests.{if-false, if-cases, if-first, if-not-first}
 use Rattle.record.specs.Transaction.{Transaction}
-use Rattle.settings.specs.declared.enable.Enabled.{Enabled}
-use Rattle.settings.specs.declared.enable.Enabled.TheVariants as enabled
+use Rattle.std.specs.Prelude.{Ok, Err}
 use Rattle.settings.specs.declared.enable.Refusal.TheVariants as refusal
 use Rattle.settings.specs.Layout as layout
 use Rattle.settings.specs.Enable as enable
@@ -163,22 +162,22 @@ short-not-long : (form : List ℕ) → is_short_form form ≡ true → is_long_f
 short-not-long form e = ne_eqb (length form) 14 (λ q. omega (arith, eqb-true (length form) 1 e))
 
 -- the answers of Receive Enable on sound settings, by their numbers
-pub data AnswersAs : Enabled → ℕ → Type 0 where
-  as-taken : AnswersAs enabled.Taken 11
-  as-bad-form : AnswersAs (enabled.Refused refusal.BadForm) 8
-  as-bad-control : AnswersAs (enabled.Refused refusal.BadControl) 9
-  as-no-mac : AnswersAs (enabled.Refused refusal.NoMac) 10
+pub data AnswersAs : enable.Answer → ℕ → Type 0 where
+  as-taken : AnswersAs (Ok tt) 11
+  as-bad-form : AnswersAs (Err refusal.BadForm) 8
+  as-bad-control : AnswersAs (Err refusal.BadControl) 9
+  as-no-mac : AnswersAs (Err refusal.NoMac) 10
 
 -- Receive Enable on settings that these forms left
 module _ (forms : List (List ℕ)) (settings rest form : List ℕ) (is : settings ≡ settings_of forms ++ rest) (sound : layout.sound settings ≡ true) where
-  pub record Reads (left : enable.Answered Enabled) (answer : ℕ) : Type 0 where
+  pub record Reads (left : enable.Answered enable.Answer) (answer : ℕ) : Type 0 where
     pub answers : AnswersAs left.answer answer
     pub leaves : left.settings ≡ settings_of (when eqb answer 11 then form ∷ forms else forms) ++ rest
 
-  unchanged : (e : Enabled) (answer : ℕ) → AnswersAs e answer → eqb answer 11 ≡ false → Reads (enable.answered e settings) answer
+  unchanged : (e : enable.Answer) (answer : ℕ) → AnswersAs e answer → eqb answer 11 ≡ false → Reads (enable.answered e settings) answer
   unchanged e answer told n = record { answers = told; leaves = rw (if-false (eqb answer 11) (form ∷ forms) forms n) is }
 
-  taken-with : (s : layout.Settings) → s ≡ as_settings (form ∷ forms) → Reads (enable.answered enabled.Taken (layout.with_settings s settings)) 11
+  taken-with : (s : layout.Settings) → s ≡ as_settings (form ∷ forms) → Reads (enable.answered (Ok tt) (layout.with_settings s settings)) 11
   unfolding when◌then◌else◌
   taken-with s e = record {
     answers = as-taken;
@@ -197,9 +196,9 @@ module _ (forms : List (List ℕ)) (settings rest form : List ℕ) (is : setting
     where
       by_tests : (short long allowed cbdm mac : Bool) → is_short_form form ≡ short → is_long_form form ≡ long
           → Reads
-          (when short then (when allowed then (when (when cbdm then mac else true) then enable.answered enabled.Taken (layout.with_settings (enable.short_form (layout.settings_in settings) (control_of form)) settings) else enable.answered (enabled.Refused refusal.NoMac) settings) else enable.answered (enabled.Refused refusal.BadControl) settings) else
-          when long then (when allowed then enable.answered enabled.Taken (layout.with_settings (enable.long_form (layout.settings_in settings) form) settings) else enable.answered (enabled.Refused refusal.BadControl) settings) else
-          enable.answered (enabled.Refused refusal.BadForm) settings)
+          (when short then (when allowed then (when (when cbdm then mac else true) then enable.answered (Ok tt) (layout.with_settings (enable.short_form (layout.settings_in settings) (control_of form)) settings) else enable.answered (Err refusal.NoMac) settings) else enable.answered (Err refusal.BadControl) settings) else
+          when long then (when allowed then enable.answered (Ok tt) (layout.with_settings (enable.long_form (layout.settings_in settings) form) settings) else enable.answered (Err refusal.BadControl) settings) else
+          enable.answered (Err refusal.BadForm) settings)
           (when not (short or long) then 8 else when not allowed then 9 else when cbdm and short and not mac then 10 else 11)
       by_tests true true allowed cbdm mac s l = absurd (true≢false (sym l ∙ short-not-long form s))
       by_tests true false true true true s l = taken-with _ (ap (λ (x : layout.Settings). enable.short_form x (control_of form)) (settings_are forms settings rest is) ∙ short-read forms form l)

@@ -5,7 +5,7 @@ use contract.Lifetimes.{Lfts}
 use denote.Triple.Clauses.{AtExit}
 use Rattle.packet.proofs.shown.Kinds as shown_kinds
 use Rattle.packet.proofs.shown.Reads as shown_reads
-use Rattle.record.specs.Transaction.{Transaction, transaction}
+use Rattle.record.specs.Transaction.{Transaction}
 use Rattle.state.specs.declared.State.{State}
 use Rattle.outcome.specs.declared.Reply.{Reply}
 use Rattle.outcome.specs.Outcome.{reply_to}
@@ -28,7 +28,7 @@ TransactIsStep =
     (kept : Kept) (store_lent settings_lent : ℕ)
     → a.0 ≡ kept.state → a.1.0.now ≡ take store_lent kept.store → a.1.1.0.now ≡ take settings_lent kept.settings
     → transact_reads.Learnt κs a result exit
-    → (let t : Transaction = transaction a.1.1.1.0 a.1.1.1.1.0.now a.1.1.1.1.1.0 in
+    → (let t : Transaction = a.1.1.1.0 in
     IsStep kept store_lent settings_lent t result.state (reply_to result.outcome) exit.1.0.now exit.1.1.0.now)
 
 -- what `packet::shown` shows is what a packet sent is compared by (manual 4.4)

@@ -9,13 +9,14 @@ use native.Mathlib.Omega.{arith}
 use lib.ListN.{length, take, drop, length-drop}
 use lib.Seq.{length-take-le, get_or-drop}
 use borrow.Author.Tests.{ltb-true, ltb-false}
+use Rattle.std.specs.Prelude.{Result, Ok, Err}
 use Rattle.prelude.specs.Choice.{when◌then◌else◌}
 use Rattle.prelude.proofs.Tests.{if-cases}
 use Rattle.record.specs.Records.{Records, records_after, records_in}
 use Rattle.translator.specs.declared.records.Replay.{Replay}
-use Rattle.translator.specs.Replay.{records_taken, replayed, fresh_replay}
-use Rattle.journal.specs.declared.header.Header.{Header}
-use Rattle.journal.specs.declared.header.Header.TheVariants as header
+use Rattle.translator.specs.Replay.{stop_of, records_taken, replayed, fresh_replay}
+use Rattle.journal.specs.declared.header.HeaderError.{HeaderError}
+use Rattle.journal.specs.declared.header.HeaderError.TheVariants as header
 use Rattle.journal.specs.declared.reading.Stage.{Stage}
 use Rattle.journal.specs.declared.reading.Stage.TheVariants as stage
 use Rattle.journal.specs.Feeding.{stage_after, records_fed, is_bad, is_bad_stage, by_header, by_stage}
@@ -50,7 +51,7 @@ records-left zero (command ∷ link ∷ size ∷ rest) small h good =
         → length (command ∷ link ∷ size ∷ rest) < 0 + (3 + length (take size rest) + (records_after size rest).used) + max_record
     whole-left inside others = let long : length (take size rest) ≡ size = length-take-le size rest inside in omega arith
 
-good-link : (b : Bool) → is_bad_stage (stage_after b) ≡ false → b ≡ false
+good-link : (b : Bool) → is_bad_stage (stage_after (stop_of b)) ≡ false → b ≡ false
 unfolding when◌then◌else◌
 good-link true e = absurd (true≢false e)
 good-link false e = refl
@@ -58,7 +59,7 @@ good-link false e = refl
 fed-left : (r : Replay) (before : ℕ) (part : List ℕ) → AreBytes part → before ≤ length part
     → is_bad (records_fed (replayed r before (drop before part))).reading ≡ false
     → length part < (records_fed (replayed r before (drop before part))).used + max_record
-unfolding replayed records_taken
+unfolding records_taken
 fed-left r before part small h e =
     let bytes : AreBytes (drop before part) = λ k. subst (λ (n : ℕ). n < 256) (sym (get_or-drop before part k 0)) (small (before + k)) in
     let left : _ = records-left 0 (drop before part) bytes zero-le (good-link (records_in (drop before part)).bad_link e) in
@@ -68,10 +69,10 @@ pub less-than-a-record : LessThanARecord
 unfolding by_stage by_header
 less-than-a-record reading part small = by-stage reading.stage
   where
-    by-header : (h : Header) → header_in part ≡ h → is_bad (by_header h reading.replay part).reading ≡ false → length part < (by_header h reading.replay part).used + max_record
-    by-header header.Cut e good = let short : length part < header_size = cut_short part e in omega arith
-    by-header header.Bad e good = absurd (true≢false good)
-    by-header (header.Maximum maximum) e good = fed-left (fresh_replay maximum) header_size part small (good-header part maximum e).long good
+    by-header : (h : Result ℕ HeaderError) → header_in part ≡ h → is_bad (by_header h reading.replay part).reading ≡ false → length part < (by_header h reading.replay part).used + max_record
+    by-header (Err header.Cut) e good = let short : length part < header_size = cut_short part e in omega arith
+    by-header (Err header.Bad) e good = absurd (true≢false good)
+    by-header (Ok maximum) e good = fed-left (fresh_replay maximum) header_size part small (good-header part maximum e).long good
 
     by-stage : (s : Stage) → is_bad (by_stage s reading.replay part).reading ≡ false → length part < (by_stage s reading.replay part).used + max_record
     by-stage stage.Start good = by-header (header_in part) refl good

@@ -10,6 +10,7 @@ use lib.ListN.{length, get_or, drop, length-append, length-drop, get_or-append}
 use lib.Seq.{drop-drop, drop-append-le}
 use borrow.Author.Tests.{le-ltb}
 use Rattle.prelude.specs.After.{After, after}
+use Rattle.std.specs.Prelude.{Result, Ok, Err}
 use Rattle.prelude.specs.Choice.{when◌then◌else◌}
 use Rattle.prelude.proofs.Tests.{if-true, if-false, if-cases}
 use Rattle.printout.specs.Printout.{Written, shown}
@@ -18,15 +19,14 @@ use Rattle.record.specs.Transaction.{Transaction}
 use Rattle.record.proofs.Resuming.{and_then, records-append}
 use Rattle.state.specs.declared.State.{State}
 use Rattle.translator.specs.declared.records.Replay.{Replay}
-use Rattle.translator.specs.Replay.{state_after, all_transacted, stopped_after, records_taken, replay_of, replayed_with, replayed, fresh_replay}
+use Rattle.translator.specs.Replay.{state_after, all_transacted, stopped_after, records_taken, replay_of, stop_of, replayed, fresh_replay}
 use Rattle.translator.specs.Transact.{transacted}
-use Rattle.journal.specs.declared.header.Header.{Header}
-use Rattle.journal.specs.declared.header.Header.TheVariants as header
-use Rattle.journal.specs.declared.reading.Fed.{Fed}
+use Rattle.journal.specs.declared.header.HeaderError.{HeaderError}
+use Rattle.journal.specs.declared.header.HeaderError.TheVariants as header
 use Rattle.journal.specs.declared.reading.Reading.{Reading}
 use Rattle.journal.specs.declared.reading.Stage.{Stage}
 use Rattle.journal.specs.declared.reading.Stage.TheVariants as stage
-use Rattle.journal.specs.Feeding.{fed_to, reading_at, stage_after, records_fed, by_header, by_stage, fed, is_bad, is_bad_stage, concluded_at, concluded}
+use Rattle.journal.specs.Feeding.{Fed, fed_to, reading_at, stage_after, records_fed, by_header, by_stage, fed, is_bad, is_bad_stage, concluded_at, concluded}
 use Rattle.journal.specs.Format.{mark_size, header_size, is_marked, header_in, bad_journal}
 use Rattle.journal.specs.Journal.{output}
 use Rattle.journal.specs.Properties.{Progress, progress, fed_on, fed_pieces, joined, at_start, InPieces}
@@ -68,12 +68,12 @@ module _ (r : Replay) (before : ℕ) (bytes more : List ℕ) (h : before ≤ len
 
   -- what records read come to
   abbrev fed_by : Records → Fed
-  fed_by records = records_fed (replayed_with (stopped_after before records (all_transacted from records.transactions)))
+  fed_by records = records_fed (stopped_after before records (all_transacted from records.transactions))
 
   -- onward, by whether a bad link byte was met
   abbrev onward_from : Bool → List ℕ → Fed
   onward_from b rest =
-      let g : Fed = fed (reading_at (stage_after b) (replay_at reached)) rest in
+      let g : Fed = fed (reading_at (stage_after (stop_of b)) (replay_at reached)) rest in
       fed_to g.reading (before + here.used + g.used)
 
   left : drop (0 + here.used) (drop before bytes) ≡ drop (before + here.used) bytes
@@ -81,21 +81,21 @@ module _ (r : Replay) (before : ℕ) (bytes more : List ℕ) (h : before ≤ len
 
   met : (b : Bool) → here.bad_link ≡ b
       → fed_by (and_then here (records_in (drop (before + here.used) bytes ++ more))) ≡ onward_from b (drop (before + here.used) bytes ++ more)
-  unfolding by_stage replayed records_taken when◌then◌else◌
+  unfolding by_stage records_taken when◌then◌else◌
   met true e =
       ap (fed_by) (if-true _ _ _ e)
-      ∙ (ap (λ (b : Bool). fed_to (reading_at (stage_after b) (replay_at reached)) (before + here.used)) e
+      ∙ (ap (λ (b : Bool). fed_to (reading_at (stage_after (stop_of b)) (replay_at reached)) (before + here.used)) e
       ∙ ap (λ (n : ℕ). fed_to (reading_at stage.Bad (replay_at reached)) n) (sym (add-zero (before + here.used))))
   met false e =
       let rest : Records = records_in (drop (before + here.used) bytes ++ more) in
       let both : Records = record { transactions = here.transactions ++ rest.transactions; used = here.used + rest.used; bad_link = rest.bad_link } in
       let place : before + (here.used + rest.used) ≡ before + here.used + (0 + rest.used) = omega arith in
       ap (fed_by) (if-false _ _ _ e)
-      ∙ (ap (λ (c : After State). records_fed (replayed_with (stopped_after before both c))) (all_append from here.transactions rest.transactions)
-      ∙ ap (λ (n : ℕ). fed_to (reading_at (stage_after rest.bad_link) (replay_at (all_transacted reached rest.transactions))) n) place)
+      ∙ (ap (λ (c : After State). records_fed (stopped_after before both c)) (all_append from here.transactions rest.transactions)
+      ∙ ap (λ (n : ℕ). fed_to (reading_at (stage_after (stop_of rest.bad_link)) (replay_at (all_transacted reached rest.transactions))) n) place)
 
   records-onward : records_fed (replayed r before (drop before (bytes ++ more))) ≡ onward (records_fed (replayed r before (drop before bytes))) bytes more
-  unfolding replayed records_taken
+  unfolding records_taken
   records-onward =
       ap (λ (l : List ℕ). fed_by (records_in l)) (drop-append-le before bytes more h)
       ∙ (ap (fed_by)
@@ -110,15 +110,15 @@ fed-onward reading bytes more = by-stage reading.stage
     r : Replay
     r = reading.replay
 
-    by-header : (found : Header) → header_in bytes ≡ found → by_header (header_in (bytes ++ more)) r (bytes ++ more) ≡ onward (by_header found r bytes) bytes more
-    by-header header.Cut e =
+    by-header : (found : Result ℕ HeaderError) → header_in bytes ≡ found → by_header (header_in (bytes ++ more)) r (bytes ++ more) ≡ onward (by_header found r bytes) bytes more
+    by-header (Err header.Cut) e =
         let g : Fed = fed (reading_at stage.Start r) (bytes ++ more) in
         ap (λ (n : ℕ). fed_to g.reading n) (sym (zero-add g.used))
-    by-header header.Bad e =
-        ap (λ (found : Header). by_header found r (bytes ++ more)) (header-append bytes more (bad-long bytes e) ∙ e)
-    by-header (header.Maximum maximum) e =
+    by-header (Err header.Bad) e =
+        ap (λ (found : Result ℕ HeaderError). by_header found r (bytes ++ more)) (header-append bytes more (bad-long bytes e) ∙ e)
+    by-header (Ok maximum) e =
         let g : Good bytes maximum = good-header bytes maximum e in
-        ap (λ (found : Header). by_header found r (bytes ++ more)) (header-append bytes more g.long ∙ e)
+        ap (λ (found : Result ℕ HeaderError). by_header found r (bytes ++ more)) (header-append bytes more g.long ∙ e)
         ∙ records-onward (fresh_replay maximum) header_size bytes more g.long
 
     by-stage : (s : Stage) → by_stage s r (bytes ++ more) ≡ onward (by_stage s r bytes) bytes more

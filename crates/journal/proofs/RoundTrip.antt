@@ -10,6 +10,7 @@ use lib.Dec.{eqb, ltb}
 use lib.ListN.{length, get_or, take, drop, length-append}
 use lib.Seq.{length-take-le, take_all, take-add, take-append_seam, drop-append_seam}
 use borrow.Author.Tests.{ltb-false, eqb-true, le-ltb, eq-eqb}
+use Rattle.std.specs.Prelude.{Result, Ok, Err}
 use Rattle.prelude.specs.Choice.{when◌then◌else◌}
 use Rattle.prelude.proofs.Lists.{by-elements}
 use Rattle.prelude.proofs.Tests.{if-true, if-false, if-cases, if-first, if-second}
@@ -18,8 +19,7 @@ use Rattle.record.specs.Transaction.{Transaction, transaction}
 use Rattle.state.specs.State.{max_maximum}
 use Rattle.journal.specs.Format.{header_of, header_size, journal_of, is_marked, header_in, Journal, bad, good, with_header, parsed}
 use Rattle.journal.specs.Properties.{RoundTrip}
-use Rattle.journal.specs.declared.header.Header.{Header}
-use Rattle.journal.specs.declared.header.Header.TheVariants as header
+use Rattle.journal.specs.declared.header.HeaderError.{HeaderError}
 use Rattle.journal.proofs.Headers.{Good}
 use Rattle.journal.proofs.Headers.{good as good-header}
 use Rattle.record.proofs.Records.{after-skip}
@@ -56,7 +56,7 @@ records-written (t ∷ rest) =
 written_is_read : (maximum : ℕ) (transactions : List Transaction) → 1 ≤ maximum → maximum ≤ max_maximum → parsed (journal_of maximum transactions) ≡ good maximum transactions
 unfolding parsed header_in is_marked when◌then◌else◌
 written_is_read maximum transactions least most =
-    ap (λ (h : Header). with_header h (records_of transactions)) read
+    ap (λ (h : Result ℕ HeaderError). with_header h (records_of transactions)) read
     ∙ (ap (λ (r : Records). when eqb r.used (length (records_of transactions)) then good maximum r.transactions else bad) (records-written transactions)
     ∙ if-true (eqb size size) (good maximum transactions) bad (eq-eqb size size refl))
   where
@@ -66,7 +66,7 @@ written_is_read maximum transactions least most =
     long : header_size ≤ length (journal_of maximum transactions)
     long = omega arith
 
-    read : header_in (journal_of maximum transactions) ≡ header.Maximum maximum
+    read : header_in (journal_of maximum transactions) ≡ Ok maximum
     read = if-false _ _ _ (le-ltb _ _ long) ∙ (if-false _ _ _ (le-ltb maximum 1 least) ∙ if-false _ _ _ (le-ltb max_maximum maximum most))
 
 -- a link byte that was read is what is written for it
@@ -123,13 +123,9 @@ read_was_written bytes maximum transactions = by-header (header_in bytes) refl
     Told : Type 0
     Told = (bytes ≡ journal_of maximum transactions) × (1 ≤ maximum) × (maximum ≤ max_maximum)
 
-    never : bad ≡ good maximum transactions → Told
-    never e = let z : ◌≡◌ {A = ℕ} 0 1 = cc in absurd (omega arith)
-
-    by-header : (h : Header) → header_in bytes ≡ h → with_header h (drop header_size bytes) ≡ good maximum transactions → Told
-    by-header header.Cut e = never
-    by-header header.Bad e = never
-    by-header (header.Maximum found) e =
+    by-header : (h : Result ℕ HeaderError) → header_in bytes ≡ h → with_header h (drop header_size bytes) ≡ good maximum transactions → Told
+    by-header (Err error) e = λ same. cc
+    by-header (Ok found) e =
         if-cases (λ (j : Journal). j ≡ good maximum transactions → Told) _ _ _
         (λ all same.
         let g : Good bytes found = good-header bytes found e in
@@ -144,7 +140,7 @@ read_was_written bytes maximum transactions = by-header (header_in bytes) refl
           omega (arith, g.least),
           omega (arith, g.most),
         ))
-        (λ _. never)
+        (λ _ same. cc)
 
 pub round_trip : RoundTrip
 round_trip = record { written_is_read = written_is_read; read_was_written = read_was_written }

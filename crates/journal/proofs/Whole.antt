@@ -9,6 +9,7 @@ use lib.Dec.{eqb}
 use lib.ListN.{length, drop, length-drop}
 use borrow.Author.Tests.{eqb-true, eqb-false, eq-eqb, ne_eqb}
 use Rattle.prelude.specs.After.{After, after}
+use Rattle.std.specs.Prelude.{Result, Ok, Err}
 use Rattle.prelude.specs.Choice.{when◌then◌else◌}
 use Rattle.prelude.proofs.Tests.{if-true, if-false, if-cases}
 use Rattle.printout.specs.Printout.{Written, printout, shown, printed}
@@ -23,17 +24,15 @@ use Rattle.state.specs.State.{max_maximum, fresh_state}
 use Rattle.state.proofs.FreshStates.{made-fresh, fresh-sound}
 use Rattle.state.proofs.Soundness.{sound-tells}
 use Rattle.translator.specs.declared.records.Replay.{Replay}
-use Rattle.translator.specs.declared.records.Replayed.{Replayed}
-use Rattle.translator.specs.Replay.{state_after, all_transacted, records_taken, empty_store, settings_at_start, fresh_replay, replayed}
+use Rattle.translator.specs.Replay.{Replayed, stop_of, state_after, all_transacted, records_taken, empty_store, settings_at_start, fresh_replay, replayed}
 use Rattle.translator.specs.Transact.{transacted}
 use Rattle.translator.proofs.Properties.{every-transaction}
-use Rattle.journal.specs.declared.header.Header.{Header}
-use Rattle.journal.specs.declared.header.Header.TheVariants as header
-use Rattle.journal.specs.declared.reading.Fed.{Fed}
+use Rattle.journal.specs.declared.header.HeaderError.{HeaderError}
+use Rattle.journal.specs.declared.header.HeaderError.TheVariants as header
 use Rattle.journal.specs.declared.reading.Reading.{Reading}
 use Rattle.journal.specs.declared.reading.Stage.{Stage}
 use Rattle.journal.specs.declared.reading.Stage.TheVariants as stage
-use Rattle.journal.specs.Feeding.{records_fed, by_header, by_stage, fed, reading_at, stage_after, started, concluded_at, concluded}
+use Rattle.journal.specs.Feeding.{Fed, records_fed, by_header, by_stage, fed, reading_at, stage_after, started, concluded_at, concluded}
 use Rattle.journal.specs.Format.{header_size, header_in, bad, good, with_header, parsed, bad_journal}
 use Rattle.journal.specs.Journal.{account_after, output_of, output}
 use Rattle.journal.proofs.Headers.{Good}
@@ -56,7 +55,7 @@ concluded-left reading unused out h = if-false _ _ _ (ne_eqb unused 0 h)
 -- all of it is used, and no link byte was bad
 concluded-all : (bad_link : Bool) (replay : Replay) (unused : ℕ) (out : List ℕ) → (bad_link ≡ true → ⊥) → unused ≡ 0
     → account_sound replay.state.account ≡ true
-    → concluded (reading_at (stage_after bad_link) replay) unused out ≡ shown (printout replay.state.account) out
+    → concluded (reading_at (stage_after (stop_of bad_link)) replay) unused out ≡ shown (printout replay.state.account) out
 unfolding concluded concluded_at printed when◌then◌else◌
 concluded-all true replay unused out h e s = absurd (h refl)
 concluded-all false replay unused out h e s = if-true _ _ _ (eq-eqb unused 0 e) ∙ if-true _ _ _ s
@@ -73,7 +72,7 @@ module _ (maximum : ℕ) (journal : List ℕ) (out : List ℕ) (g : Good journal
   left = replayed (fresh_replay maximum) header_size rest
 
   account-is : left.replay.state.account ≡ account_after maximum records.transactions
-  unfolding replayed records_taken fresh_replay
+  unfolding records_taken fresh_replay
   account-is =
       ap (λ (s : State). (all_transacted (after s empty_store settings_at_start) records.transactions).result.account) (made-fresh maximum g.least g.most)
 
@@ -81,13 +80,9 @@ module _ (maximum : ℕ) (journal : List ℕ) (out : List ℕ) (g : Good journal
   account-sound =
       (sound-tells _ (all_sound (after (fresh_state maximum) empty_store settings_at_start) records.transactions refl (fresh-sound maximum g.least g.most))).account-is-sound
 
-  place : left.at ≡ header_size + records.used
-  unfolding replayed records_taken
+  place : left.stopped.at ≡ header_size + records.used
+  unfolding records_taken
   place = refl
-
-  met : left.bad_link ≡ records.bad_link
-  unfolding replayed records_taken
-  met = refl
 
   size : length rest ≡ length journal - header_size
   size = length-drop header_size journal
@@ -96,24 +91,24 @@ module _ (maximum : ℕ) (journal : List ℕ) (out : List ℕ) (g : Good journal
   within = used-within 0 rest (omega arith)
 
   all-or-left : (t : Bool) → eqb records.used (length rest) ≡ t
-      → concluded (records_fed left).reading (length journal - left.at) out ≡ shown (output_of (when t then good maximum records.transactions else bad)) out
-  unfolding when◌then◌else◌
+      → concluded (records_fed left).reading (length journal - left.stopped.at) out ≡ shown (output_of (when t then good maximum records.transactions else bad)) out
+  unfolding when◌then◌else◌ records_taken
   all-or-left true e =
-      concluded-all left.bad_link left.replay _ out (λ b. not-below (eqb-true _ _ e) (within.left (sym met ∙ b))) none (subst (λ (a : Account). account_sound a ≡ true) (sym account-is) account-sound)
+      concluded-all records.bad_link left.replay _ out (λ b. not-below (eqb-true _ _ e) (within.left b)) none (subst (λ (a : Account). account_sound a ≡ true) (sym account-is) account-sound)
       ∙ ap (λ (a : Account). shown (printout a) out) account-is
     where
       not-below : records.used ≡ length rest → 0 + records.used < length rest → ⊥
       not-below e l = omega arith
 
-      none : length journal - left.at ≡ 0
+      none : length journal - left.stopped.at ≡ 0
       none = let all : records.used ≡ length rest = eqb-true _ _ e in omega (arith, size, place)
   all-or-left false e = concluded-left _ _ out (λ z. eqb-false _ _ e (same z size place within.within g.long))
     where
-      same : length journal - left.at ≡ 0 → length rest ≡ length journal - header_size → left.at ≡ header_size + records.used
+      same : length journal - left.stopped.at ≡ 0 → length rest ≡ length journal - header_size → left.stopped.at ≡ header_size + records.used
           → 0 + records.used ≤ length rest → header_size ≤ length journal → records.used ≡ length rest
       same z size place w long = omega arith
 
-  records-concluded : concluded (records_fed left).reading (length journal - (records_fed left).used) out ≡ shown (output_of (with_header (header.Maximum maximum) rest)) out
+  records-concluded : concluded (records_fed left).reading (length journal - (records_fed left).used) out ≡ shown (output_of (with_header (Ok maximum) rest)) out
   records-concluded = all-or-left (eqb records.used (length rest)) refl
 
 concluded-unread : (s : Stage) (r : Replay) (unused : ℕ) (out : List ℕ) → concluded_at s r out ≡ shown bad_journal out
@@ -128,19 +123,19 @@ pub whole-concluded : (journal out : List ℕ) →
 unfolding by_stage by_header concluded_at output parsed
 whole-concluded journal out = by-header (header_in journal) refl
   where
-    P : Header → Type 0
+    P : Result ℕ HeaderError → Type 0
     P h =
         let f : Fed = by_header h (fresh_replay max_maximum) journal in
         concluded f.reading (length journal - f.used) out ≡ shown (output_of (with_header h (drop header_size journal))) out
 
-    by-header : (h : Header) → header_in journal ≡ h → P h
-    by-header header.Cut e = concluded-unread _ _ _ out refl
-    by-header header.Bad e = concluded-unread _ _ _ out refl
-    by-header (header.Maximum maximum) e = records-concluded maximum journal out (good-header journal maximum e)
+    by-header : (h : Result ℕ HeaderError) → header_in journal ≡ h → P h
+    by-header (Err header.Cut) e = concluded-unread _ _ _ out refl
+    by-header (Err header.Bad) e = concluded-unread _ _ _ out refl
+    by-header (Ok maximum) e = records-concluded maximum journal out (good-header journal maximum e)
 
 -- what is used of a part is there
 records-fed-within : (r : Replay) (before : ℕ) (part : List ℕ) → before ≤ length part → (records_fed (replayed r before (drop before part))).used ≤ length part
-unfolding replayed records_taken
+unfolding records_taken
 records-fed-within r before part h =
     let w : Within 0 (drop before part) (records_in (drop before part)) = used-within 0 (drop before part) (omega arith) in
     omega (arith, length-drop before part)
@@ -149,10 +144,10 @@ pub fed-within : (reading : Reading) (part : List ℕ) → (fed reading part).us
 unfolding by_stage by_header
 fed-within reading part = by-stage reading.stage
   where
-    by-header : (h : Header) → header_in part ≡ h → (by_header h reading.replay part).used ≤ length part
-    by-header header.Cut e = omega arith
-    by-header header.Bad e = omega arith
-    by-header (header.Maximum maximum) e = records-fed-within _ header_size part (good-header part maximum e).long
+    by-header : (h : Result ℕ HeaderError) → header_in part ≡ h → (by_header h reading.replay part).used ≤ length part
+    by-header (Err header.Cut) e = omega arith
+    by-header (Err header.Bad) e = omega arith
+    by-header (Ok maximum) e = records-fed-within _ header_size part (good-header part maximum e).long
 
     by-stage : (s : Stage) → (by_stage s reading.replay part).used ≤ length part
     by-stage stage.Start = by-header (header_in part) refl

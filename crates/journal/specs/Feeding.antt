@@ -1,15 +1,15 @@
 -- A journal that is fed in pieces: what one call takes of a piece, and the outcome in the end (manual 9.3, 9.4).
-use Rattle.std.specs.Prelude.{ℕ, Bool, true, false, List, eqb, drop}
+use Rattle.std.specs.Prelude.{ℕ, Bool, true, false, List, Result, Ok, Err, eqb, drop}
 use Rattle.prelude.specs.Choice.{when◌then◌else◌}
 use Rattle.printout.specs.Printout.{Written, shown, printed}
+use Rattle.record.specs.declared.Stop.{Stop}
+use Rattle.record.specs.declared.Stop.TheVariants as stop
 use Rattle.state.specs.State.{max_maximum}
 use Rattle.translator.specs.declared.records.Replay.{Replay}
-use Rattle.translator.specs.declared.records.Replayed.{Replayed}
-use Rattle.translator.specs.Replay.{fresh_replay, replayed}
+use Rattle.translator.specs.Replay.{Replayed, fresh_replay, replayed}
 use Rattle.journal.specs.Format.{header_size, header_in, bad_journal}
-use Rattle.journal.specs.declared.header.Header.{Header}
-use Rattle.journal.specs.declared.header.Header.TheVariants as header
-use Rattle.journal.specs.declared.reading.Fed.{Fed}
+use Rattle.journal.specs.declared.header.HeaderError.{HeaderError}
+use Rattle.journal.specs.declared.header.HeaderError.TheVariants as header
 use Rattle.journal.specs.declared.reading.Reading.{Reading}
 use Rattle.journal.specs.declared.reading.Stage.{Stage}
 use Rattle.journal.specs.declared.reading.Stage.TheVariants as stage
@@ -18,7 +18,12 @@ use Rattle.journal.specs.declared.reading.Stage.TheVariants as stage
 abbrev pub reading_at : Stage → Replay → Reading
 reading_at stage replay = record { stage = stage; replay = replay }
 
--- a reading that used so many bytes (manual 9.4)
+-- a reading that went on, and how many bytes of the part it used (manual 9.5)
+pub record Fed : Type 0 where
+  pub reading : Reading
+  pub used : ℕ
+
+-- both of these (manual 9.4)
 abbrev pub fed_to : Reading → ℕ → Fed
 fed_to reading used = record { reading = reading; used = used }
 
@@ -27,18 +32,19 @@ abbrev pub started : Reading
 started = reading_at stage.Start (fresh_replay max_maximum)
 
 -- a bad link byte is bad for good (manual 9.3)
-abbrev pub stage_after : Bool → Stage
-stage_after bad_link = when bad_link then stage.Bad else stage.Records
+abbrev pub stage_after : Stop → Stage
+stage_after stop.Cut = stage.Records
+stage_after stop.BadLink = stage.Bad
 
 -- a reading once records were replayed (manual 9.2)
 abbrev pub records_fed : Replayed → Fed
-records_fed r = fed_to (reading_at (stage_after r.bad_link) r.replay) r.at
+records_fed r = fed_to (reading_at (stage_after r.stopped.stop) r.replay) r.stopped.at
 
 -- a header that is cut waits for more; behind a good one come the records, on a fresh state for its maximum (manual 9.4)
-unfoldable pub by_header : Header → Replay → List ℕ → Fed
-by_header header.Cut replay part = fed_to (reading_at stage.Start replay) 0
-by_header header.Bad replay part = fed_to (reading_at stage.Bad replay) 0
-by_header (header.Maximum maximum) replay part = records_fed (replayed (fresh_replay maximum) header_size (drop header_size part))
+unfoldable pub by_header : Result ℕ HeaderError → Replay → List ℕ → Fed
+by_header (Err header.Cut) replay part = fed_to (reading_at stage.Start replay) 0
+by_header (Err header.Bad) replay part = fed_to (reading_at stage.Bad replay) 0
+by_header (Ok maximum) replay part = records_fed (replayed (fresh_replay maximum) header_size (drop header_size part))
 
 -- what one call takes of a part (manual 9.1, 9.2)
 unfoldable pub by_stage : Stage → Replay → List ℕ → Fed

@@ -4,9 +4,8 @@ use Rattle.printout.specs.Printout.{shown}
 use Rattle.record.specs.Records.{head_size}
 use Rattle.record.specs.Transaction.{Transaction}
 use Rattle.state.specs.State.{max_maximum}
-use Rattle.journal.specs.declared.reading.Fed.{Fed}
 use Rattle.journal.specs.declared.reading.Reading.{Reading}
-use Rattle.journal.specs.Feeding.{fed, started, is_bad, concluded}
+use Rattle.journal.specs.Feeding.{Fed, fed, started, is_bad, concluded}
 use Rattle.journal.specs.Format.{good, journal_of, parsed, bad_journal}
 use Rattle.journal.specs.Journal.{output}
 

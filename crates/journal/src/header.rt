@@ -1,8 +1,8 @@
 // The header of a journal.
 #![tactic(auto, using(prelude::proofs::Tests::tests), unfolding(crate::specs::Format::header_in, crate::specs::Format::is_marked))]
 
-ghost use Rattle.std.specs.Prelude.{◌≡◌, ◌≤◌, length};
-ghost use Rattle.journal.specs.Format.{header_in, header_size, is_marked};
+ghost use Rattle.std.specs.Prelude.{◌≡◌};
+ghost use Rattle.journal.specs.Format.{header_in};
 
 const MARK_SIZE: usize = 5;
 
@@ -13,50 +13,29 @@ const MARK: [u8; MARK_SIZE] = [b'T', b'C', b'O', 1, 0];
 pub const HEADER_SIZE: usize = MARK_SIZE + 1;
 
 #[derive(Clone, Copy)]
-pub enum Header {
+pub enum HeaderError {
     // Fewer bytes than a header has.
     Cut,
+    // Another mark, or a maximum that is not allowed.
     Bad,
-    // A good header, with its fragment maximum.
-    Maximum(u32),
 }
 
-// What the bytes begin with, taken as a header.
-pub fn read_header(bytes: &[u8]) -> Header
+// The fragment maximum of the header that the bytes begin with.
+pub fn read_header(bytes: &[u8]) -> Result<u32, HeaderError>
     ensures { result ≡ header_in bytes.now }
 {
     if bytes.len() < HEADER_SIZE {
-        return Header::Cut;
+        return Err(HeaderError::Cut);
     }
-    if !is_marked(bytes) {
-        return Header::Bad;
+    if !bytes.starts_with(&MARK) {
+        return Err(HeaderError::Bad);
     }
-    let maximum = bytes[MARK_SIZE] as u32;
+    let maximum = u32::from(bytes[MARK_SIZE]);
     if maximum < 1 {
-        return Header::Bad;
+        return Err(HeaderError::Bad);
     }
-    if state::MAX_MAXIMUM < maximum as u64 {
-        return Header::Bad;
+    if state::MAX_MAXIMUM < u64::from(maximum) {
+        return Err(HeaderError::Bad);
     }
-    Header::Maximum(maximum)
-}
-
-// Whether the bytes begin with the mark.
-fn is_marked(bytes: &[u8]) -> bool
-    requires { header_size ≤ length bytes.now }
-    ensures { result ≡ is_marked bytes.now }
-{
-    if bytes[0] != MARK[0] {
-        return false;
-    }
-    if bytes[1] != MARK[1] {
-        return false;
-    }
-    if bytes[2] != MARK[2] {
-        return false;
-    }
-    if bytes[3] != MARK[3] {
-        return false;
-    }
-    bytes[4] == MARK[4]
+    Ok(maximum)
 }

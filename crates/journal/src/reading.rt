@@ -4,11 +4,12 @@
 ghost use Rattle.std.specs.Prelude.{◌≡◌, drop};
 ghost use Rattle.printout.specs.Printout.{written, shown};
 ghost use Rattle.translator.specs.Replay.{replayed};
-ghost use Rattle.journal.specs.Feeding.{by_header, concluded, fed, fed_to, is_bad, reading_at, records_fed, stage_after, started};
+ghost use Rattle.journal.specs.Feeding.{by_header, concluded, fed, fed_to, is_bad, records_fed, stage_after, started};
 ghost use Rattle.journal.specs.Format.{bad_journal, header_in};
 ghost use Rattle.journal.specs.Journal.{output};
 
-use crate::header::{HEADER_SIZE, Header, read_header};
+use crate::header::{HEADER_SIZE, HeaderError, read_header};
+use record::Stop;
 use translator::Replay;
 
 #[derive(Clone, Copy)]
@@ -21,112 +22,99 @@ pub enum Stage {
     Bad,
 }
 
-// What is known of a journal so far. Before its header is read, the replay is for the largest maximum.
+// What is known of a journal so far. The stages do not hold the replay: `started` promises it before
+// the header too, for the largest maximum.
 #[derive(Clone, Copy)]
 pub struct Reading {
     stage: Stage,
     replay: Replay,
 }
 
-// A reading that went on, and how many bytes of the part it used.
-#[derive(Clone, Copy)]
-pub struct Fed {
-    pub reading: Reading,
-    pub used: usize,
-}
-
-// A journal of which nothing is read yet.
-pub fn start() -> Reading
-    ensures { result ≡ started }
-{
-    Reading {
-        stage: Stage::Start,
-        replay: translator::start_replay(state::MAX_MAXIMUM as u32),
+impl Reading {
+    // A journal of which nothing is read yet.
+    pub fn start() -> Reading
+        ensures { result ≡ started }
+    {
+        Reading {
+            stage: Stage::Start,
+            replay: Replay::start(state::MAX_MAXIMUM as u32),
+        }
     }
-}
 
-// Takes the header, if it is still to come, and then each whole record of the part in turn. Stops at
-// a header or record that is cut, which is fed again with the bytes that follow, and for good at a
-// bad header or link byte.
-pub fn feed(reading: Reading, part: &[u8]) -> Fed
-    ensures { result ≡ fed reading part.now }
-{
-    let stage = reading.stage;
-    let replay = reading.replay;
-    match stage {
-        Stage::Start => feed_header(replay, part),
-        Stage::Records => feed_records(replay, part, 0),
-        Stage::Bad => fed_to(Stage::Bad, replay, 0),
+    // Takes the header, if it is still to come, and then each whole record of the part in turn, and
+    // answers how many bytes these are. Stops at a header or record that is cut, which is fed again
+    // with the bytes that follow, and for good at a bad header or link byte.
+    pub fn feed(&mut self, part: &[u8]) -> usize
+        ensures { fed_to self.new result ≡ fed self.old part.now }
+    {
+        match self.stage {
+            Stage::Start => self.feed_header(part),
+            Stage::Records => self.feed_records(part, 0),
+            Stage::Bad => 0,
+        }
     }
-}
 
-// Takes the header and the records behind it.
-fn feed_header(replay: Replay, part: &[u8]) -> Fed
-    ensures { result ≡ by_header (header_in part.now) replay part.now }
-{
-    match read_header(part) {
-        Header::Cut => fed_to(Stage::Start, replay, 0),
-        Header::Bad => fed_to(Stage::Bad, replay, 0),
-        Header::Maximum(maximum) => {
-            feed_records(translator::start_replay(maximum), part, HEADER_SIZE)
+    // Takes the header and the records behind it.
+    fn feed_header(&mut self, part: &[u8]) -> usize
+        requires { self.old.stage ≡ Stage.Start }
+        ensures { fed_to self.new result ≡ by_header (header_in part.now) self.old.replay part.now }
+    {
+        match read_header(part) {
+            Ok(maximum) => {
+                self.replay = Replay::start(maximum);
+                self.feed_records(part, HEADER_SIZE)
+            }
+            Err(HeaderError::Cut) => 0,
+            Err(HeaderError::Bad) => {
+                self.stage = Stage::Bad;
+                0
+            }
+        }
+    }
+
+    // Takes the records from a place of the part on.
+    fn feed_records(&mut self, part: &[u8], from: usize) -> usize
+        ensures { fed_to self.new result ≡ records_fed (replayed self.old.replay from (drop from part.now)) }
+    {
+        let stopped = self.replay.take(part, from);
+        self.stage = stage_after(stopped.stop);
+        stopped.at
+    }
+
+    // Whether the journal is bad, whatever follows.
+    pub fn is_bad(&self) -> bool
+        ensures { result ≡ is_bad self.now }
+    {
+        match self.stage {
+            Stage::Start => false,
+            Stage::Records => false,
+            Stage::Bad => true,
+        }
+    }
+
+    // Prints the outcome of a journal that was fed to its end, when `unused` bytes are left: its
+    // account as `printout::print` does, or that it is bad. A count and no Option, as there.
+    pub fn conclude(&self, unused: usize, out: &mut [u8]) -> usize
+        ensures { written result out.new ≡ concluded self.now unused out.old }
+    {
+        if unused != 0 {
+            return print_bad(out);
+        }
+        match self.stage {
+            Stage::Start => print_bad(out),
+            Stage::Records => printout::print(self.replay.account(), out),
+            Stage::Bad => print_bad(out),
         }
     }
 }
 
-// Takes the records from a place of the part on.
-fn feed_records(replay: Replay, part: &[u8], from: usize) -> Fed
-    ensures { result ≡ records_fed (replayed replay from (drop from part.now)) }
-{
-    let replayed = translator::replay_records(replay, part, from);
-    let replay = replayed.replay;
-    fed_to(stage_after(replayed.bad_link), replay, replayed.at)
-}
-
 // A bad link byte is bad for good.
-fn stage_after(bad_link: bool) -> Stage
-    ensures { result ≡ stage_after bad_link }
+fn stage_after(stop: Stop) -> Stage
+    ensures { result ≡ stage_after stop }
 {
-    if bad_link {
-        return Stage::Bad;
-    }
-    Stage::Records
-}
-
-fn fed_to(stage: Stage, replay: Replay, used: usize) -> Fed
-    ensures { result ≡ fed_to (reading_at stage replay) used }
-{
-    Fed {
-        reading: Reading { stage, replay },
-        used,
-    }
-}
-
-// Whether the journal is bad, whatever follows.
-pub fn is_bad(reading: Reading) -> bool
-    ensures { result ≡ is_bad reading }
-{
-    let stage = reading.stage;
-    match stage {
-        Stage::Start => false,
-        Stage::Records => false,
-        Stage::Bad => true,
-    }
-}
-
-// Prints the outcome of a journal that was fed to its end, when `unused` bytes are left: its account
-// as `printout::print` does, or that it is bad.
-pub fn conclude(reading: Reading, unused: usize, out: &mut [u8]) -> usize
-    ensures { written result out.new ≡ concluded reading unused out.old }
-{
-    if unused != 0 {
-        return print_bad(out);
-    }
-    let stage = reading.stage;
-    let replay = reading.replay;
-    match stage {
-        Stage::Start => print_bad(out),
-        Stage::Records => printout::print(translator::account_of(replay), out),
-        Stage::Bad => print_bad(out),
+    match stop {
+        Stop::Cut => Stage::Records,
+        Stop::BadLink => Stage::Bad,
     }
 }
 
@@ -138,12 +126,11 @@ fn print_bad(out: &mut [u8]) -> usize
 }
 
 // Prints the outcome of a whole journal at the start of out and answers how many bytes that took, or
-// answers 0 and writes nothing where out has fewer.
+// answers 0 and writes nothing where out has fewer: a count and no Option, as of `printout::print`.
 pub fn print_journal(journal: &[u8], out: &mut [u8]) -> usize
     ensures { written result out.new ≡ shown (output journal.now) out.old }
 {
-    let fed = feed(start(), journal);
-    let used = fed.used;
-    let reading = fed.reading;
-    conclude(reading, journal.len() - used, out)
+    let mut reading = Reading::start();
+    let used = reading.feed(journal);
+    reading.conclude(journal.len() - used, out)
 }

@@ -2,7 +2,7 @@
 #![tactic(auto)]
 
 ghost use Rattle.std.specs.Prelude.{◌≡◌};
-ghost use Rattle.outcome.specs.Outcome.{cause_number, number_of, reply_to, sent_length_of};
+ghost use Rattle.outcome.specs.Outcome.{sent_length_of};
 
 use settings::Refusal;
 
@@ -44,7 +44,8 @@ pub enum Cause {
     LinkDown,
 }
 
-// An outcome in numbers: the answer, and the sent length of a packet that was sent, else 0.
+// An outcome in numbers, since C sees this struct: the answer, and the sent length of a packet that was
+// sent, else 0.
 #[repr(C)]
 #[derive(Clone, Copy)]
 pub struct Reply {
@@ -53,12 +54,17 @@ pub struct Reply {
 }
 
 // The outcome in numbers.
-pub fn reply_to(outcome: Outcome) -> Reply
-    ensures { result ≡ reply_to outcome }
-{
-    Reply {
-        answer: number(outcome),
-        sent: sent_length(outcome),
+impl From<Outcome> for Reply {
+    ghost use Rattle.std.specs.Prelude.{◌≡◌};
+    ghost use Rattle.outcome.specs.Outcome.{reply_to};
+
+    ghost from_gives = { λ outcome reply. reply ≡ reply_to outcome };
+
+    fn from(outcome: Outcome) -> Reply {
+        Reply {
+            answer: u32::from(outcome),
+            sent: sent_length(outcome),
+        }
     }
 }
 
@@ -66,42 +72,47 @@ fn sent_length(outcome: Outcome) -> u32
     ensures { result ≡ sent_length_of outcome }
 {
     match outcome {
-        Outcome::Joined => 0,
         Outcome::Sent(length) => length,
-        Outcome::Discarded(_) => 0,
-        Outcome::Unknown => 0,
-        Outcome::Refused(_) => 0,
-        Outcome::Taken => 0,
-        Outcome::NoRoom => 0,
-        Outcome::NotSound => 0,
-        Outcome::Full => 0,
+        _ => 0,
     }
 }
 
-fn number(outcome: Outcome) -> u32
-    ensures { result ≡ number_of outcome }
-{
-    match outcome {
-        Outcome::Joined => 0,
-        Outcome::Sent(_) => 1,
-        Outcome::Discarded(cause) => cause_number(cause),
-        Outcome::Unknown => 7,
-        Outcome::Refused(refusal) => settings::refusal_number(refusal),
-        Outcome::Taken => 11,
-        Outcome::NoRoom => 12,
-        Outcome::NotSound => 13,
-        Outcome::Full => 14,
+// The answer number.
+impl From<Outcome> for u32 {
+    ghost use Rattle.std.specs.Prelude.{◌≡◌};
+    ghost use Rattle.outcome.specs.Outcome.{number_of};
+
+    ghost from_gives = { λ outcome number. number ≡ number_of outcome };
+
+    fn from(outcome: Outcome) -> u32 {
+        match outcome {
+            Outcome::Joined => 0,
+            Outcome::Sent(_) => 1,
+            Outcome::Discarded(cause) => u32::from(cause),
+            Outcome::Unknown => 7,
+            Outcome::Refused(refusal) => u32::from(refusal),
+            Outcome::Taken => 11,
+            Outcome::NoRoom => 12,
+            Outcome::NotSound => 13,
+            Outcome::Full => 14,
+        }
     }
 }
 
-fn cause_number(cause: Cause) -> u32
-    ensures { result ≡ cause_number cause }
-{
-    match cause {
-        Cause::Aborted => 2,
-        Cause::BadLength => 3,
-        Cause::Over => 4,
-        Cause::Short => 5,
-        Cause::LinkDown => 6,
+// The answer number of a packet that is discarded.
+impl From<Cause> for u32 {
+    ghost use Rattle.std.specs.Prelude.{◌≡◌};
+    ghost use Rattle.outcome.specs.Outcome.{cause_number};
+
+    ghost from_gives = { λ cause number. number ≡ cause_number cause };
+
+    fn from(cause: Cause) -> u32 {
+        match cause {
+            Cause::Aborted => 2,
+            Cause::BadLength => 3,
+            Cause::Over => 4,
+            Cause::Short => 5,
+            Cause::LinkDown => 6,
+        }
     }
 }

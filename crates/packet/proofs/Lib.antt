@@ -1,3 +1,3 @@
 pub mod Properties
-pub mod Zeros
+pub mod Filled
 pub mod Unique

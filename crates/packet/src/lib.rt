@@ -1,5 +1,5 @@
 // The assembly store that the caller lends: how long a packet may be, and one filled up and shown.
-#![tactic(auto, using(prelude::proofs::Tests::tests), unfolding(crate::specs::Store::sent_length, crate::specs::Store::shown))]
+#![tactic(auto, using(prelude::proofs::Tests::tests), unfolding(crate::specs::Store::filled, crate::specs::Store::sent_length, crate::specs::Store::shown))]
 
 ghost use Rattle.std.specs.Prelude.{◌≡◌};
 ghost use Rattle.prelude.specs.Parts.{slice_of};
@@ -21,24 +21,20 @@ pub const MIN_SENT: u64 = 60;
 pub fn fill(store: &mut [u8], total: u64)
     ensures { store.new ≡ filled store.old total }
 {
+    if MIN_SENT <= total {
+        return;
+    }
     if (store.len() as u64) < MIN_SENT {
         return;
     }
-    let mut at = total as usize;
-    while at < MIN_SENT as usize {
-        store[at] = 0;
-        at += 1;
-    }
+    store[total as usize..MIN_SENT as usize].fill(0);
 }
 
 // How many bytes are sent of a packet of `total` bytes.
 pub fn sent_length(total: u64) -> u64
     ensures { result ≡ sent_length total }
 {
-    if total < MIN_SENT {
-        return MIN_SENT;
-    }
-    total
+    total.max(MIN_SENT)
 }
 
 // The first `size` bytes of the store, or an empty part where it has fewer or they are more than
@@ -47,11 +43,10 @@ pub fn shown(store: &[u8], size: u64) -> &[u8]
     ensures { slice_of result ≡ shown store.entry size }
 {
     if (store.len() as u64) < size {
-        return &store[0..0];
+        return &store[..0];
     }
     if MAX_PACKET < size {
-        return &store[0..0];
+        return &store[..0];
     }
-    let end = size as usize;
-    &store[0..end]
+    &store[..size as usize]
 }

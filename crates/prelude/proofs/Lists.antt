@@ -1,35 +1,17 @@
 -- Laws on lists that the library does not have.
 -- Assumes nothing.
 use Prim.Native.Nat.{ℕ, zero, suc, ◌+◌, ◌-◌, ◌≤◌, ◌<◌}
-use mathlib.Core.Bool.{Bool, true, false, ◌&&◌}
+use mathlib.Core.Bool.{Bool, true, false}
 use mathlib.Core.List.{List, [], ◌∷◌, ◌++◌, append_assoc, append-nil}
 use mathlib.Core.Logic.{⊎_elim}
 use mathlib.Core.Path.{◌≡◌, refl, sym, ap, ◌∙◌}
-use native.Mathlib.Nat.{le_of_suc-le-suc, not-suc-le-zero, add-zero, add-suc, suc-add}
+use native.Mathlib.Nat.{add-zero, add-suc, suc-add}
 use native.Mathlib.Omega.{arith}
-use lib.Dec.{T}
 use lib.ListN.{length, get_or, take, drop, length-take, length-drop, length-append, drop_of_length-le, get_or-append}
-use lib.Seq.{get_or-take, get_or-drop, get_or-append-add, take_all, take-add, take-length, take_at, take-append_seam, length-take-le, drop_at, drop-drop, drop-cons, drop-append-add}
+use lib.Seq.{get_or-take, get_or-drop, get_or-append-add, take-add, take_at, take-append_seam, length-take-le, drop_at, drop-drop, drop-cons, drop-append-add}
+use borrow.Rule.Slice.PartMut.{put_mid}
 use Rattle.prelude.specs.Choice.{when◌then◌else◌}
 use Rattle.prelude.specs.Parts.{part, put, ChangesOnly}
-
--- the test holds of each entry of a table, which a proof computes
-abbrev pub every : {A : Type 0} → (A → Bool) → List A → Bool
-every p [] = true
-every p (x ∷ xs) = p x && every p xs
-
-pub and_left : (a b : Bool) → T (a && b) → T a
-and_left true b t = tt
-and_left false b t = t
-
-pub and_right : (a b : Bool) → T (a && b) → T b
-and_right true b t = t
-and_right false b t = absurd t
-
-pub every-at : {A : Type 0} (p : A → Bool) (xs : List A) (i : ℕ) (d : A) → T (every p xs) → i < length xs → T (p (get_or xs i d))
-every-at p [] i d t h = absurd (not-suc-le-zero h)
-every-at p (x ∷ xs) zero d t h = and_left (p x) (every p xs) t
-every-at p (x ∷ xs) (suc i) d t h = every-at p xs i d (and_right (p x) (every p xs) t) (le_of_suc-le-suc h)
 
 -- the n elements from place i on, one by one: at numerals it computes to the list of them
 abbrev pub elements : ℕ → ℕ → List ℕ → List ℕ
@@ -58,14 +40,10 @@ length_part at n bytes h = simp (length-take, length-drop) (omega arith)
 pub drop_past : (n m : ℕ) (xs ys : List ℕ) → length xs ≡ n → drop (n + m) (xs ++ ys) ≡ drop m ys
 drop_past n m xs ys e = rw (← e) (drop-append-add xs ys m)
 
--- what a copy into the tail from `at` on leaves in the whole
-pub copied-into-tail : (bytes piece tail : List ℕ) (at : ℕ) → at + length piece ≤ length bytes
-    → tail ≡ take (length piece) piece ++ drop (length piece) (take (length bytes - at) (drop at bytes))
-    → take at bytes ++ (tail ++ drop (length bytes - at) (drop at bytes)) ≡ put bytes at piece
+-- a piece copied over the part of a slice that is as long
+pub copied-over-part : (bytes piece copy : List ℕ) (at n : ℕ) → n ≡ length piece → copy ≡ piece → put_mid at n bytes copy ≡ put bytes at piece
 unfolding put
-copied-into-tail bytes piece tail at h e =
-    let whole : length (drop at bytes) ≤ length bytes - at = simp length-drop (omega arith) in
-    simp (e, take_all (length bytes - at) (drop at bytes) whole, drop_of_length-le (drop at bytes) whole, take-length, append-nil, drop-drop)
+copied-over-part bytes piece copy at n h e = rw (h, e, drop-drop (length piece) at bytes)
 
 pub length-put : (bytes piece : List ℕ) (at : ℕ) → at + length piece ≤ length bytes → length (put bytes at piece) ≡ length bytes
 unfolding put

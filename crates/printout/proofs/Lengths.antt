@@ -4,18 +4,39 @@ use Prim.Native.Nat.{ℕ, zero, suc, ◌+◌, ◌*◌, ◌/◌, ◌≤◌}
 use Prim.Native.String.{String}
 use mathlib.Core.Bool.{Bool}
 use mathlib.Core.List.{List, [], ◌∷◌, ◌++◌}
-use mathlib.Core.Path.{◌∙◌}
+use mathlib.Core.Path.{◌∙◌, refl}
 use native.Mathlib.Omega.{arith}
-use lib.Dec.{T, leb, leb→le}
+use lib.Dec.{leb}
 use lib.ListN.{length, length-append}
-use borrow.Author.Tests.{le-ltb}
+use borrow.Author.Tests.{le-ltb, leb-true}
+use Rattle.std.specs.List.{AllPass}
+use Rattle.std.proofs.lemmas.List.Sums.{AllPass-from_list_all}
 use Rattle.state.specs.declared.Beside.{Beside}
+use Rattle.state.specs.Account.{columns}
 use Rattle.prelude.specs.Ascii.{ascii}
-use Rattle.prelude.proofs.Lists.{every, and_left, and_right}
 use Rattle.prelude.proofs.Tests.{if-true, if-false, if-cases}
-use Rattle.printout.specs.Appending.{max_name, max_field, max_cells, max_count, max_fate, max_counts}
-use Rattle.printout.specs.Printout.{decimal_in, field, fields, fates, cells_of, line_of, fate_lines, open_packets, count_lines, printout, shown, printed}
+use Rattle.printout.specs.Printout.{max_digits, decimal_in, field, fields, fates, cells_of, line_of, fate_lines, open_packets, count_lines, printout, shown, printed}
 use Rattle.printout.specs.Properties.{EveryPrintout, EveryBuffer}
+
+-- the most bytes of a row's name, of a number with its space, and of a line behind its name
+abbrev max_name : ℕ
+max_name = 10
+
+abbrev max_field : ℕ
+max_field = 1 + max_digits
+
+abbrev max_cells : ℕ
+max_cells = columns * max_field + 1
+
+abbrev max_count : ℕ
+max_count = max_field + 1
+
+-- of a row's line, and of the lines behind the rows
+abbrev max_fate : ℕ
+max_fate = max_name + max_cells
+
+abbrev max_counts : ℕ
+max_counts = 151
 
 both-short : (first second : List ℕ) (m n : ℕ) → length first ≤ m → length second ≤ n → length (first ++ second) ≤ m + n
 both-short first second m n h k = simp length-append (omega arith)
@@ -46,13 +67,13 @@ line-short name numbers = let short : _ = fields-short numbers in simp length-ap
 abbrev short_name : String × ℕ → Bool
 short_name fate = leb (length (ascii fate.0)) max_name
 
-fates-short : (lines : List (String × ℕ)) (grid : List ℕ) → T (every short_name lines) → length (fate_lines lines grid) ≤ length lines * max_fate
+fates-short : (lines : List (String × ℕ)) (grid : List ℕ) → AllPass short_name lines → length (fate_lines lines grid) ≤ length lines * max_fate
 unfolding fate_lines
-fates-short [] grid t = omega arith
-fates-short (fate ∷ rest) grid t =
-    let name : length (ascii fate.0) ≤ max_name = leb→le _ _ (and_left (short_name fate) (every short_name rest) t) in
+fates-short [] grid each = omega arith
+fates-short (fate ∷ rest) grid each =
+    let name : length (ascii fate.0) ≤ max_name = leb-true _ _ (each 0 fate (omega arith)) in
     let line : _ = line-short (ascii fate.0) (cells_of fate.1 grid) in
-    let others : _ = fates-short rest grid (and_right (short_name fate) (every short_name rest) t) in
+    let others : _ = fates-short rest grid (λ k d l. each (suc k) d (omega arith)) in
     let both : _ = both-short (line_of (ascii fate.0) (cells_of fate.1 grid)) (fate_lines rest grid) _ _ line others in
     omega arith
 
@@ -72,7 +93,7 @@ counts-short b =
 pub every-printout : EveryPrintout
 unfolding printout
 every-printout a =
-    let lines : _ = both-short (fate_lines fates a.grid) (count_lines a.beside) _ _ (fates-short fates a.grid tt) (counts-short a.beside) in
+    let lines : _ = both-short (fate_lines fates a.grid) (count_lines a.beside) _ _ (fates-short fates a.grid (AllPass-from_list_all short_name fates refl)) (counts-short a.beside) in
     omega arith
 
 pub every-buffer : EveryBuffer

@@ -1,5 +1,4 @@
-pub mod Appending
+pub mod Lines
 pub mod Decimal
-pub mod Fates
 pub mod Lengths
 pub mod Unique

@@ -1,3 +1,3 @@
-pub mod Appending
+pub mod Lines
 pub mod Printout
 pub mod Properties

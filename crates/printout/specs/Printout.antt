@@ -45,6 +45,10 @@ fates =
 abbrev pub cells_of : ℕ → List ℕ → List ℕ
 cells_of row grid = packets_in row grid ∷ fragments_in row grid ∷ bytes_in row grid ∷ []
 
+-- what the numbers of a row are (manual 9.4)
+abbrev pub heading : List ℕ
+heading = ascii "fate packets fragments bytes\n"
+
 -- a line for each row (manual 9.4)
 unfoldable pub fate_lines : List (String × ℕ) → List ℕ → List ℕ
 fate_lines [] grid = []
@@ -64,7 +68,7 @@ count_lines b =
 
 -- a heading, the rows and the numbers beside them (manual 9.4)
 unfoldable pub printout : Account → List ℕ
-printout a = ascii "fate packets fragments bytes\n" ++ (fate_lines fates a.grid ++ count_lines a.beside)
+printout a = heading ++ (fate_lines fates a.grid ++ count_lines a.beside)
 
 -- the most bytes of a printout (manual 9.4)
 abbrev pub max_printout : ℕ

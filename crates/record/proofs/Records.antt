@@ -9,12 +9,14 @@ use native.Mathlib.Omega.{arith}
 use lib.Dec.{eqb, ltb}
 use lib.ListN.{length, get_or, take, drop, length-drop}
 use lib.Seq.{get_or-drop, drop-drop, length-take-le}
+use Rattle.std.specs.Prelude.{Result, Ok, Err, IfOk}
 use borrow.Author.Tests.{ltb-true, ltb-false, lt-ltb, le-ltb}
 use Rattle.prelude.proofs.Tests.{if-true, if-false, if-cases}
 use Rattle.record.specs.Records.{Records, none, one, records_after, records_in, found_at}
 use Rattle.record.specs.Transaction.{transaction}
-use Rattle.record.specs.declared.Found.{Found}
-use Rattle.record.specs.declared.Found.TheVariants as found
+use Rattle.record.specs.declared.Record.{Record}
+use Rattle.record.specs.declared.Stop.{Stop}
+use Rattle.record.specs.declared.Stop.TheVariants as stop
 
 -- what is skipped may as well be dropped
 pub after-skip : (n : ℕ) (bytes : List ℕ) → n ≤ length bytes → records_after n bytes ≡ records_in (drop n bytes)
@@ -62,10 +64,10 @@ whole (x ∷ y ∷ z ∷ rest) h e l =
     if-false _ _ _ e ∙ (if-false _ _ _ (le-ltb _ _ inside) ∙ ap (one (transaction x (take z rest) (eqb y 1))) (after-skip z rest inside))
 
 -- the records from a place on, by what stands there
-abbrev pub by_found : List ℕ → Found → Records
-by_found bytes found.Cut = none false
-by_found bytes found.BadLink = none true
-by_found bytes (found.Whole command link_up start end) = one (transaction command (take (end - start) (drop start bytes)) link_up) (records_in (drop end bytes))
+abbrev pub by_found : List ℕ → Result Record Stop → Records
+by_found bytes (Err stop.Cut) = none false
+by_found bytes (Err stop.BadLink) = none true
+by_found bytes (Ok r) = one (transaction r.command (take (r.end - r.start) (drop r.start bytes)) r.link_up) (records_in (drop r.end bytes))
 
 pub records-by-found : (bytes : List ℕ) (at : ℕ) → records_in (drop at bytes) ≡ by_found bytes (found_at bytes at)
 unfolding found_at
@@ -82,7 +84,7 @@ records-by-found bytes at =
     cancel : at + 3 + get_or bytes (at + 2) 0 - (at + 3) ≡ get_or bytes (at + 2) 0
     cancel = omega arith
 
-    P : Found → Type 0
+    P : Result Record Stop → Type 0
     P e = records_in (drop at bytes) ≡ by_found bytes e
 
     left : length (drop at bytes) ≡ length bytes - at
@@ -100,27 +102,18 @@ pub record WholeAt (bytes : List ℕ) (at start end : ℕ) : Type 0 where
   pub forward : start ≤ end
   pub inside : end ≤ length bytes
 
-pub whole-at : (bytes : List ℕ) (at command : ℕ) (link_up : Bool) (start end : ℕ) → found_at bytes at ≡ found.Whole command link_up start end → WholeAt bytes at start end
+pub whole-at : (bytes : List ℕ) (at : ℕ) → IfOk (found_at bytes at) (λ r. WholeAt bytes at r.start r.end)
 unfolding found_at
-whole-at bytes at command link_up start end =
-    if-cases P _ _ _ (λ _ e. absurd (never-cut e))
-    (λ _. if-cases P _ _ _ (λ _ e. absurd (never-cut e))
-    (λ _. if-cases P _ _ _ (λ _ e. absurd (never-bad e))
-    (λ _. if-cases P _ _ _ (λ _ e. absurd (never-cut e))
-    (λ three. if-cases P _ _ _ (λ _ e. absurd (never-cut e))
-    (λ fits e.
-    let s : start ≡ at + 3 = cc in
-    let d : end ≡ at + 3 + get_or bytes (at + 2) 0 = cc in
-    record { starts = s; forward = omega arith; inside = omega (arith, ltb-false) })))))
+whole-at bytes at =
+    if-cases P _ _ _ (λ _. tt)
+    (λ _. if-cases P _ _ _ (λ _. tt)
+    (λ _. if-cases P _ _ _ (λ _. tt)
+    (λ _. if-cases P _ _ _ (λ _. tt)
+    (λ three. if-cases P _ _ _ (λ _. tt)
+    (λ fits. record { starts = refl; forward = omega arith; inside = omega (arith, ltb-false) })))))
   where
-    P : Found → Type 0
-    P f = f ≡ found.Whole command link_up start end → WholeAt bytes at start end
-
-    never-cut : found.Cut ≡ found.Whole command link_up start end → ⊥
-    never-cut e = let z : ◌≡◌ {A = ℕ} 0 1 = cc in omega arith
-
-    never-bad : found.BadLink ≡ found.Whole command link_up start end → ⊥
-    never-bad e = let z : ◌≡◌ {A = ℕ} 0 1 = cc in omega arith
+    P : Result Record Stop → Type 0
+    P found = IfOk found (λ r. WholeAt bytes at r.start r.end)
 
 -- what is used is there, and more where a bad link byte comes next
 pub record Within (skipped : ℕ) (bytes : List ℕ) (records : Records) : Type 0 where

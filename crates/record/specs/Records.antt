@@ -1,8 +1,9 @@
 -- The records of a journal, as they are written and read (manual 9.2).
-use Rattle.std.specs.Prelude.{ℕ, zero, suc, ◌+◌, ◌-◌, Bool, true, false, List, [], ◌∷◌, ◌++◌, eqb, ltb, length, get_or, take}
+use Rattle.std.specs.Prelude.{ℕ, zero, suc, ◌+◌, ◌-◌, Bool, true, false, List, [], ◌∷◌, ◌++◌, eqb, ltb, length, get_or, take, Result, Ok, Err}
 use Rattle.prelude.specs.Choice.{when◌then◌else◌}
-use Rattle.record.specs.declared.Found.{Found}
-use Rattle.record.specs.declared.Found.TheVariants as found
+use Rattle.record.specs.declared.Record.{Record}
+use Rattle.record.specs.declared.Stop.{Stop}
+use Rattle.record.specs.declared.Stop.TheVariants as stop
 use Rattle.record.specs.Transaction.{Transaction, transaction}
 
 -- the link byte (manual 9.2)
@@ -23,14 +24,20 @@ abbrev pub head_size : ℕ
 head_size = 3
 
 -- how it is read: what stands at a place of some bytes, taken as a record; the link byte is judged as soon as it is there (manual 9.3)
-unfoldable pub found_at : List ℕ → ℕ → Found
+unfoldable pub found_at : List ℕ → ℕ → Result Record Stop
 found_at bytes at =
-    when ltb (length bytes) at then found.Cut else
-    when ltb (length bytes - at) 2 then found.Cut else
-    when ltb 1 (get_or bytes (at + 1) 0) then found.BadLink else
-    when ltb (length bytes - at) head_size then found.Cut else
-    when ltb (length bytes - at - head_size) (get_or bytes (at + 2) 0) then found.Cut else
-    found.Whole (get_or bytes at 0) (eqb (get_or bytes (at + 1) 0) 1) (at + head_size) (at + head_size + get_or bytes (at + 2) 0)
+    when ltb (length bytes) at then Err stop.Cut else
+    when ltb (length bytes - at) 2 then Err stop.Cut else
+    when ltb 1 (get_or bytes (at + 1) 0) then Err stop.BadLink else
+    when ltb (length bytes - at) head_size then Err stop.Cut else
+    when ltb (length bytes - at - head_size) (get_or bytes (at + 2) 0) then Err stop.Cut else
+    Ok
+    (record {
+      command = get_or bytes at 0;
+      link_up = eqb (get_or bytes (at + 1) 0) 1;
+      start = at + head_size;
+      end = at + head_size + get_or bytes (at + 2) 0;
+    })
 
 -- the whole records that some bytes begin with, how many bytes they are, and whether a bad link byte comes next (manual 9.2, 9.3)
 pub record Records : Type 0 where

@@ -1,11 +1,12 @@
 -- Check 5 can be left out on copper: a word that passes the earlier checks selects a pair that copper takes.
 -- Assumes nothing.
 use Prim.Native.Nat.{ℕ, ◌+◌, ◌≤◌, ◌<◌}
-use mathlib.Core.Bool.{Bool, true, false}
+use Rattle.std.proofs.lemmas.List.Folds.{list_any_at}
+use mathlib.Core.Bool.{Bool, true, false, true≢false}
 use mathlib.Core.Path.{◌≡◌, refl, sym, ◌∙◌}
 use native.Mathlib.Omega.{arith}
 use lib.Dec.{eqb, ltb}
-use lib.ListN.{get_or}
+use lib.ListN.{length, get_or}
 use borrow.Author.Tests.{ltb-true, ltb-false, eq-eqb, ne_eqb, eqb-true, eqb-false}
 use Rattle.prelude.specs.Bits.{bits, is_set}
 use Rattle.prelude.specs.Choice.{when◌then◌else◌}
@@ -18,7 +19,10 @@ use Rattle.setlink.specs.declared.Pair.{Pair}
 use Rattle.setlink.specs.Word.{speed10, speed100, speed1000, speed10g, half_duplex, full_duplex, no_speed, speeds, pairs, takes, fits, any_fits}
 use Rattle.setlink.specs.Decide.{no_reason, invalid_parameter, host_conflict, media_conflict, parameter_conflict, speed_conflict, negotiated_reason, forced_reason, parameter_reason, reason_before_media, media_reason, media_reason_on_fibre, reason, decided}
 use Rattle.setlink.specs.Copper.{reason_on_fibre_alone, LeftOutOnCopper}
-use Rattle.setlink.proofs.Pairs.{no_pair, none-fits-at}
+
+false-unless-true : (t : Bool) → (t ≡ true → ⊥) → t ≡ false
+false-unless-true true h = absurd (h refl)
+false-unless-true false h = refl
 
 -- where a test refuses, for a reason, what comes after it is not asked
 after-test : (t : Bool) (why : ℕ) → eqb why no_reason ≡ false → (x y m : ℕ) → x ≡ (when eqb y no_reason then m else y)
@@ -33,6 +37,10 @@ by-number why m =
     if-cases (λ (x : ℕ). x ≡ (when eqb why no_reason then m else why)) _ _ _
     (λ some. sym (if-false _ _ _ (ne_eqb why no_reason (λ none. absurd (omega (arith, ltb-true 0 why some))))))
     (λ none. sym (if-true _ _ _ (eq-eqb why no_reason (omega (arith, ltb-false 0 why none)))))
+
+-- what is read past the end of the table
+abbrev no_pair : Pair
+no_pair = record { speed = 0; duplex = 0; fibre = false }
 
 -- the bits of three speeds and of a duplex that is selected, where none of the speeds goes with it
 no-speed-left : (a b c : ℕ) {duplex : ℕ} → 0 < a + b + c → duplex ≡ 1 → a + duplex ≤ 1 → b + duplex ≤ 1 → c + duplex ≤ 1 → ⊥
@@ -50,8 +58,14 @@ module _ (word : ℕ) where
       (λ _ e. omega (arith, eqb-false))
       (λ e _. omega (arith, eqb-false))
 
+  -- where none fits, the one at any place does not
+  none-fits-at : (i : ℕ) → i < length pairs → any_fits Copper word pairs ≡ false → fits Copper word (get_or pairs i no_pair) ≡ false
+  unfolding any_fits
+  none-fits-at i h none =
+      false-unless-true _ (λ fit. true≢false (sym (list_any_at (fits Copper word) pairs i no_pair h fit) ∙ none))
+
   lacks-one-at : (i : ℕ) → i < 5 → any_fits Copper word pairs ≡ false → bits (get_or pairs i no_pair).speed 1 word + bits (get_or pairs i no_pair).duplex 1 word ≤ 1
-  lacks-one-at i h none = lacks-one (get_or pairs i no_pair) (none-fits-at Copper word pairs i h none)
+  lacks-one-at i h none = lacks-one (get_or pairs i no_pair) (none-fits-at i h none)
 
   -- half duplex fits with a speed below 1000, which are the pairs 0 and 2
   half-fits : 0 < speeds word → bits half_duplex 1 word ≡ 1 → bits speed1000 1 word ≡ 0 → bits speed10g 1 word ≡ 0 → any_fits Copper word pairs ≡ true

@@ -1,4 +1,4 @@
+pub mod Codes
 pub mod Copper
-pub mod Pairs
 pub mod Properties
 pub mod Unique

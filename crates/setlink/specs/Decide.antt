@@ -1,10 +1,12 @@
 -- The decision on Set Link: its checks, one after the other (manual 7.3).
-use Rattle.std.specs.Prelude.{ℕ, ◌/◌, ◌^◌, Bool, eqb, ltb}
+use Rattle.std.specs.Prelude.{ℕ, ◌/◌, ◌^◌, Bool, Result, Ok, Err, eqb, ltb}
 use Rattle.prelude.specs.Bits.{bits, is_set}
 use Rattle.prelude.specs.Choice.{when◌then◌else◌}
 use Rattle.setlink.specs.declared.Media.{Media}
 use Rattle.setlink.specs.declared.Media.TheVariants.{Copper, Fibre}
 use Rattle.setlink.specs.declared.Decision.{Decision}
+use Rattle.setlink.specs.declared.Reason.{Reason}
+use Rattle.setlink.specs.declared.Reason.TheVariants as why
 use Rattle.setlink.specs.Word.{auto_negotiation, speed1000, speed10g, half_duplex, no_speed, speeds, duplexes, pairs, any_fits}
 
 -- response codes of DSP0222 (manual 7.3)
@@ -32,6 +34,19 @@ parameter_conflict = 0x0903
 
 abbrev pub speed_conflict : ℕ
 speed_conflict = 0x0905
+
+-- the code of a refusal (manual 7.3)
+abbrev pub code_of : Reason → ℕ
+code_of why.InvalidParameter = invalid_parameter
+code_of why.HostConflict = host_conflict
+code_of why.MediaConflict = media_conflict
+code_of why.ParameterConflict = parameter_conflict
+code_of why.SpeedConflict = speed_conflict
+
+-- the code that a check is answered with (manual 7.3)
+abbrev pub code_answered : Result Unit Reason → ℕ
+code_answered (Ok _) = no_reason
+code_answered (Err reason) = code_of reason
 
 -- check 3: auto-negotiation wants a pair that copper takes, whatever the medium (manual 7.2, 7.3)
 unfoldable pub negotiated_reason : ℕ → ℕ

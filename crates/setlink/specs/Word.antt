@@ -1,10 +1,26 @@
 -- The word of Set Link: what its bits select, and the pairs of speed and duplex that a medium takes (manual 7.1, 7.2).
-use Rattle.std.specs.Prelude.{ℕ, ◌+◌, Bool, true, false, List, [], ◌∷◌, eqb}
+use Rattle.std.specs.Prelude.{ℕ, ◌+◌, Bool, true, false, List, [], ◌∷◌, Result, Ok, Err, eqb}
+use Rattle.std.specs.List.{list_any}
 use Rattle.prelude.specs.Bits.{bits, is_set}
-use Rattle.prelude.specs.Choice.{◌and◌, ◌or◌}
+use Rattle.prelude.specs.Choice.{when◌then◌else◌, ◌and◌}
 use Rattle.setlink.specs.declared.Media.{Media}
 use Rattle.setlink.specs.declared.Media.TheVariants.{Copper, Fibre}
 use Rattle.setlink.specs.declared.Pair.{Pair}
+use Rattle.setlink.specs.declared.UnknownMedia.{UnknownMedia}
+
+-- how this interface numbers the media (manual 7.2)
+abbrev pub copper : ℕ
+copper = 0
+
+abbrev pub fibre : ℕ
+fibre = 1
+
+-- another number is no medium (manual 7.2, 7.3)
+unfoldable pub media_of : ℕ → Result Media UnknownMedia
+media_of number =
+    when eqb number copper then Ok Copper else
+    when eqb number fibre then Ok Fibre else
+    Err (record { number = number })
 
 -- the bits that select something, by their numbers; no check reads the pause bits (manual 7.1)
 abbrev pub auto_negotiation : ℕ
@@ -60,5 +76,4 @@ fits media word pair = takes media pair and is_set pair.speed word and is_set pa
 
 -- some pair of a list fits (manual 7.3)
 unfoldable pub any_fits : Media → ℕ → List Pair → Bool
-any_fits media word [] = false
-any_fits media word (pair ∷ rest) = fits media word pair or any_fits media word rest
+any_fits media word = list_any (fits media word)

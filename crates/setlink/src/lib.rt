@@ -1,10 +1,11 @@
 // The Set Link decision of the Intel I210 (data sheet, 10.6.2.1), with the response and reason
 // codes of DMTF DSP0222. Its five checks are those of manual 7.3.
-#![tactic(auto, using(prelude::proofs::Tests::tests), unfolding(crate::specs::Word::takes, crate::specs::Word::fits, crate::specs::Word::any_fits, crate::specs::Decide::forced_reason, crate::specs::Decide::parameter_reason, crate::specs::Decide::negotiated_reason, crate::specs::Decide::reason_before_media, crate::specs::Decide::media_reason_on_fibre, crate::specs::Decide::media_reason, crate::specs::Decide::reason, crate::specs::Decide::decided))]
+#![tactic(auto, using(prelude::proofs::Tests::tests), unfolding(crate::specs::Word::takes, crate::specs::Word::fits, crate::specs::Word::any_fits, crate::specs::Word::media_of, crate::specs::Decide::forced_reason, crate::specs::Decide::parameter_reason, crate::specs::Decide::negotiated_reason, crate::specs::Decide::reason_before_media, crate::specs::Decide::media_reason_on_fibre, crate::specs::Decide::media_reason, crate::specs::Decide::reason, crate::specs::Decide::decided))]
 
 ghost use Rattle.std.specs.Prelude.{◌≡◌, ◌<◌};
-ghost use Rattle.setlink.specs.Word.{pairs, takes, fits, any_fits};
-ghost use Rattle.setlink.specs.Decide.{forced_reason, parameter_reason, reason_before_media, media_reason_on_fibre, reason, decided};
+ghost use Rattle.prelude.specs.Bits.{is_set};
+ghost use Rattle.setlink.specs.Word.{pairs, takes, fits, any_fits, media_of};
+ghost use Rattle.setlink.specs.Decide.{code_of, code_answered, forced_reason, parameter_reason, reason_before_media, media_reason_on_fibre, reason, decided};
 
 // What the link runs over.
 #[derive(Clone, Copy)]
@@ -13,8 +14,28 @@ pub enum Media {
     Fibre,
 }
 
+// A number that names no medium.
+#[derive(Clone, Copy)]
+pub struct UnknownMedia {
+    pub number: u32,
+}
+
+impl TryFrom<u32> for Media {
+    type Error = UnknownMedia;
+
+    ghost try_from_gives = { λ number outcome. outcome ≡ media_of number };
+
+    fn try_from(number: u32) -> Result<Media, UnknownMedia> {
+        match number {
+            0 => Ok(Media::Copper),
+            1 => Ok(Media::Fibre),
+            _ => Err(UnknownMedia { number }),
+        }
+    }
+}
+
 // What Set Link is answered, with a response and a reason code of DSP0222, and the word in force
-// from then on.
+// from then on. Codes and no Result: C sees this struct.
 #[repr(C)]
 #[derive(Clone, Copy)]
 pub struct Decision {
@@ -25,19 +46,35 @@ pub struct Decision {
 
 const COMPLETED: u16 = 0x0000;
 
-const FAILED: u16 = 0x0001;
+pub const FAILED: u16 = 0x0001;
 
 const NO_REASON: u16 = 0x0000;
 
-const INVALID_PARAMETER: u16 = 0x0002;
+pub const INVALID_PARAMETER: u16 = 0x0002;
 
-const HOST_CONFLICT: u16 = 0x0901;
+// Why a word is refused.
+#[derive(Clone, Copy)]
+enum Reason {
+    InvalidParameter,
+    HostConflict,
+    MediaConflict,
+    ParameterConflict,
+    SpeedConflict,
+}
 
-const MEDIA_CONFLICT: u16 = 0x0902;
+impl From<Reason> for u16 {
+    ghost from_gives = { λ why code. code ≡ code_of why };
 
-const PARAMETER_CONFLICT: u16 = 0x0903;
-
-const SPEED_CONFLICT: u16 = 0x0905;
+    fn from(why: Reason) -> u16 {
+        match why {
+            Reason::InvalidParameter => INVALID_PARAMETER,
+            Reason::HostConflict => 0x0901,
+            Reason::MediaConflict => 0x0902,
+            Reason::ParameterConflict => 0x0903,
+            Reason::SpeedConflict => 0x0905,
+        }
+    }
+}
 
 const AUTO_NEGOTIATION: u32 = 0;
 
@@ -62,9 +99,7 @@ struct Pair {
     fibre: bool,
 }
 
-const PAIR_COUNT: usize = 5;
-
-const PAIRS: [Pair; PAIR_COUNT] = [
+const PAIRS: [Pair; 5] = [
     Pair {
         speed: SPEED_10,
         duplex: HALF_DUPLEX,
@@ -97,128 +132,117 @@ const PAIRS: [Pair; PAIR_COUNT] = [
 pub fn decide(in_force: u32, word: u32, host_present: bool, media: Media) -> Decision
     ensures { result ≡ decided in_force word host_present media }
 {
-    let reason = reason_for(word, host_present, media);
-    if reason == NO_REASON {
-        return Decision {
+    match judge(word, host_present, media) {
+        Ok(()) => Decision {
             response: COMPLETED,
             reason: NO_REASON,
             in_force: word,
-        };
-    }
-    Decision {
-        response: FAILED,
-        reason,
-        in_force,
+        },
+        Err(why) => Decision {
+            response: FAILED,
+            reason: u16::from(why),
+            in_force,
+        },
     }
 }
 
-// Why the word is refused, or NO_REASON.
-fn reason_for(word: u32, host_present: bool, media: Media) -> u16
-    ensures { result ≡ reason word host_present media }
+// Refuses a word that fails one of the five checks. Three arguments and no struct: C hands them over one
+// by one, and each check reads one or two of them.
+fn judge(word: u32, host_present: bool, media: Media) -> Result<(), Reason>
+    ensures { code_answered result ≡ reason word host_present media }
 {
-    let before_media = reason_before_media(word, host_present);
-    if before_media != NO_REASON {
-        return before_media;
-    }
-    media_reason_on_fibre(word, media)
+    judge_before_media(word, host_present)?;
+    judge_for_media(word, media)
 }
 
-// Checks 1 to 4: why the word is refused whatever the medium, or NO_REASON.
-fn reason_before_media(word: u32, host_present: bool) -> u16
-    ensures { result ≡ reason_before_media word host_present }
+// Checks 1 to 4, which refuse a word whatever the medium.
+fn judge_before_media(word: u32, host_present: bool) -> Result<(), Reason>
+    ensures { code_answered result ≡ reason_before_media word host_present }
 {
     if host_present {
-        return HOST_CONFLICT;
+        return Err(Reason::HostConflict);
     }
     // bits 5 to 7, then 12 to 31, are reserved
     if 0 < (word >> 5) % 8 {
-        return INVALID_PARAMETER;
+        return Err(Reason::InvalidParameter);
     }
     if 0 < word >> 12 {
-        return INVALID_PARAMETER;
+        return Err(Reason::InvalidParameter);
     }
     if (word >> SPEED_10) % 16 == 0 {
-        return INVALID_PARAMETER;
+        return Err(Reason::InvalidParameter);
     }
-    parameter_reason(word)
+    judge_parameters(word)
 }
 
-// Check 5, made on fibre alone: why a word that passed the others is refused for the medium, or
-// NO_REASON. Such a word selects a pair that copper takes.
-fn media_reason_on_fibre(word: u32, media: Media) -> u16
-    ensures { result ≡ media_reason_on_fibre media word }
+// Check 5, made on fibre alone, of a word that passed the others. Such a word selects a pair that
+// copper takes.
+fn judge_for_media(word: u32, media: Media) -> Result<(), Reason>
+    ensures { code_answered result ≡ media_reason_on_fibre media word }
 {
     match media {
-        Media::Copper => NO_REASON,
+        Media::Copper => Ok(()),
         Media::Fibre => {
             if any_pair_fits(word, Media::Fibre) {
-                return NO_REASON;
+                return Ok(());
             }
-            MEDIA_CONFLICT
+            Err(Reason::MediaConflict)
         }
     }
 }
 
 // Check 3 or 4, of the speeds and duplexes that the word selects. A pair is valid for the device
 // where copper takes it.
-fn parameter_reason(word: u32) -> u16
-    ensures { result ≡ parameter_reason word }
+fn judge_parameters(word: u32) -> Result<(), Reason>
+    ensures { code_answered result ≡ parameter_reason word }
 {
-    if (word >> AUTO_NEGOTIATION) % 2 == 1 {
+    if is_set(word, AUTO_NEGOTIATION) {
         if any_pair_fits(word, Media::Copper) {
-            return NO_REASON;
+            return Ok(());
         }
-        return INVALID_PARAMETER;
+        return Err(Reason::InvalidParameter);
     }
-    forced_reason(word)
+    judge_forced(word)
 }
 
 // Check 4: one speed and one duplex, no half duplex from 1000 up, and not 10G.
-fn forced_reason(word: u32) -> u16
-    ensures { result ≡ forced_reason word }
+fn judge_forced(word: u32) -> Result<(), Reason>
+    ensures { code_answered result ≡ forced_reason word }
 {
     let speeds = (word >> SPEED_10) % 2
         + (word >> SPEED_100) % 2
         + (word >> SPEED_1000) % 2
         + (word >> SPEED_10G) % 2;
     if 1 < speeds {
-        return SPEED_CONFLICT;
+        return Err(Reason::SpeedConflict);
     }
     let duplexes = (word >> HALF_DUPLEX) % 2 + (word >> FULL_DUPLEX) % 2;
     if duplexes == 0 {
-        return INVALID_PARAMETER;
+        return Err(Reason::InvalidParameter);
     }
     if 1 < duplexes {
-        return INVALID_PARAMETER;
+        return Err(Reason::InvalidParameter);
     }
-    if (word >> HALF_DUPLEX) % 2 == 1 {
-        if (word >> SPEED_1000) % 2 == 1 {
-            return PARAMETER_CONFLICT;
+    if is_set(word, HALF_DUPLEX) {
+        if is_set(word, SPEED_1000) {
+            return Err(Reason::ParameterConflict);
         }
-        if (word >> SPEED_10G) % 2 == 1 {
-            return PARAMETER_CONFLICT;
+        if is_set(word, SPEED_10G) {
+            return Err(Reason::ParameterConflict);
         }
-        return NO_REASON;
+        return Ok(());
     }
-    if (word >> SPEED_10G) % 2 == 1 {
-        return INVALID_PARAMETER;
+    if is_set(word, SPEED_10G) {
+        return Err(Reason::InvalidParameter);
     }
-    NO_REASON
+    Ok(())
 }
 
 // Whether the medium takes a pair whose speed and duplex the word selects.
 fn any_pair_fits(word: u32, media: Media) -> bool
     ensures { result ≡ any_fits media word pairs }
 {
-    let mut i: usize = 0;
-    while i < PAIR_COUNT {
-        let pair = PAIRS[i];
-        if pair_fits(word, media, pair) {
-            return true;
-        }
-        i += 1;
-    }
-    false
+    PAIRS.iter().any(|pair| pair_fits(word, media, *pair))
 }
 
 fn pair_fits(word: u32, media: Media, pair: Pair) -> bool
@@ -226,13 +250,14 @@ fn pair_fits(word: u32, media: Media, pair: Pair) -> bool
     requires duplex_bound { pair.duplex < 32 }
     ensures { result ≡ fits media word pair }
 {
-    if !takes_pair(media, pair) {
-        return false;
-    }
-    if (word >> pair.speed) % 2 != 1 {
-        return false;
-    }
-    (word >> pair.duplex) % 2 == 1
+    takes_pair(media, pair) && is_set(word, pair.speed) && is_set(word, pair.duplex)
+}
+
+fn is_set(word: u32, bit: u32) -> bool
+    requires { bit < 32 }
+    ensures { result ≡ is_set bit word }
+{
+    (word >> bit) % 2 == 1
 }
 
 fn takes_pair(media: Media, pair: Pair) -> bool

@@ -10,14 +10,13 @@ use lib.Dec.{eqb}
 use lib.ListN.{length, get_or, drop, set, get_or-append}
 use lib.Seq.{get_or-take, get_or-drop, get_or-append-add, get_or-set_same, get_or-set_other}
 use borrow.Author.Tests.{eqb-true, eqb-false}
+use Rattle.std.specs.Prelude.{Ok, Err}
 use Rattle.prelude.specs.Choice.{when◌then◌else◌}
 use Rattle.prelude.specs.Parts.{part}
 use Rattle.prelude.proofs.Tests.{if-cases}
-use Rattle.settings.specs.declared.enable.Enabled.{Enabled}
-use Rattle.settings.specs.declared.enable.Enabled.TheVariants.{Taken, Refused}
 use Rattle.settings.specs.declared.enable.Refusal.TheVariants.{TooShort, NotSound, BadForm, BadControl, NoMac}
 use Rattle.settings.specs.Layout.{Settings, size, settings_in, with_settings, kept_bits}
-use Rattle.settings.specs.Enable.{number_of, Answered, answered, short_form_size, long_form_size, short_form, long_form, short_form_answered, long_form_answered, receive_enabled}
+use Rattle.settings.specs.Enable.{Answer, number_of, Answered, answered, short_form_size, long_form_size, short_form, long_form, short_form_answered, long_form_answered, receive_enabled}
 use Rattle.settings.specs.Properties.{Writes, EveryWriting}
 use Rattle.settings.proofs.Properties.{Sized, long-form-sized}
 use Rattle.settings.proofs.Sound.{Sound, sound-tells}
@@ -77,10 +76,10 @@ module _ (s : Settings) (bytes : List ℕ) (sized : Sized s) where
       ∙ (written-from-unread (3 + rest) ∙ (behind s.unread _ 3 rest sized.unread ∙ (get_or-drop size bytes rest 0 ∙ ap (λ (n : ℕ). get_or bytes n 0) again)))
 
 module _ (settings form : List ℕ) where
-  abbrev Does : Answered Enabled → Type 0
+  abbrev Does : Answered Answer → Type 0
   Does = Writes settings form
 
-  refuses : (answer : Enabled) → eqb (number_of answer) (number_of Taken) ≡ false → Does (answered answer settings)
+  refuses : (answer : Answer) → eqb (number_of answer) (number_of (Ok tt)) ≡ false → Does (answered answer settings)
   refuses answer n = record {
     two_forms = λ t. absurd (eqb-false _ _ n t);
     short_form = λ t. absurd (eqb-false _ _ n t);
@@ -101,8 +100,8 @@ module _ (settings form : List ℕ) where
           });
           long_form = λ _ long. absurd (omega arith);
         })
-        (λ _. refuses (Refused NoMac) refl))
-        (λ _. refuses (Refused BadControl) refl)
+        (λ _. refuses (Err NoMac) refl))
+        (λ _. refuses (Err BadControl) refl)
       where
         one_byte : set settings 0 (get_or form 0 0) ≡ with_settings (short_form (settings_in settings) (get_or form 0 0)) settings
         one_byte = short-form-written settings s.has_room s.kept-is-bits (get_or form 0 0)
@@ -125,20 +124,20 @@ module _ (settings form : List ℕ) where
             others = written-rest after settings sized;
           };
         })
-        (λ _. refuses (Refused BadControl) refl)
+        (λ _. refuses (Err BadControl) refl)
 
 pub every-writing : EveryWriting
 unfolding receive_enabled
 every-writing settings form =
     if-cases Q _ _ _
-    (λ _. refuses settings form (Refused TooShort) refl)
+    (λ _. refuses settings form (Err TooShort) refl)
     (λ _. if-cases Q _ _ _
     (λ s. if-cases Q _ _ _
     (λ short. short-form-writes settings form (sound-tells settings s) (eqb-true _ _ short))
     (λ _. if-cases Q _ _ _
     (λ long. long-form-writes settings form (sound-tells settings s) (eqb-true _ _ long))
-    (λ _. refuses settings form (Refused BadForm) refl)))
-    (λ _. refuses settings form (Refused NotSound) refl))
+    (λ _. refuses settings form (Err BadForm) refl)))
+    (λ _. refuses settings form (Err NotSound) refl))
   where
-    Q : Answered Enabled → Type 0
+    Q : Answered Answer → Type 0
     Q = Writes settings form

@@ -11,14 +11,13 @@ use lib.Seq.{drop-set-lt}
 use lib.ListN.{set, length, get_or, drop, length-append, length-drop}
 use borrow.Author.Tests.{le-ltb, ltb-true, ltb-false, eqb-true, eqb-false}
 use Rattle.prelude.specs.Bits.{is_set}
+use Rattle.std.specs.Prelude.{Ok, Err}
 use Rattle.prelude.specs.Choice.{when◌then◌else◌, ◌or◌}
 use Rattle.prelude.proofs.Lists.{length_part, drop_past}
 use Rattle.prelude.proofs.Tests.{if-true, if-false, if-cases}
-use Rattle.settings.specs.declared.enable.Enabled.{Enabled}
-use Rattle.settings.specs.declared.enable.Enabled.TheVariants.{Taken, Refused}
 use Rattle.settings.specs.declared.enable.Refusal.TheVariants.{TooShort, NotSound, BadForm, BadControl, NoMac}
 use Rattle.settings.specs.Layout.{Settings, size, allowed, has_its_mac, sound, settings_in, with_settings, fresh_settings, kept_bits, has_dedicated_mac}
-use Rattle.settings.specs.Enable.{number_of, answered, short_form_size, long_form_size, short_form, long_form, short_form_answered, long_form_answered, receive_enabled, freshened}
+use Rattle.settings.specs.Enable.{Answer, number_of, answered, short_form_size, long_form_size, short_form, long_form, short_form_answered, long_form_answered, receive_enabled, freshened}
 use Rattle.settings.specs.Properties.{Recodes, KeepsTheRest, Enables, EveryEnable, Freshens, EveryFresh}
 use Rattle.settings.proofs.Sound.{Sound, sound-tells}
 use Rattle.settings.proofs.Writes.{kept-bits-recoded, settings-recoded, short-form-written, length-chosen}
@@ -100,11 +99,11 @@ module _ (bytes : List ℕ) (room : size ≤ length bytes) where
   }
 
 module _ (settings bytes : List ℕ) where
-  unchanged : (answer : Enabled) → eqb (number_of answer) (number_of Taken) ≡ false → Enables settings bytes (answered answer settings)
+  unchanged : (answer : Answer) → eqb (number_of answer) (number_of (Ok tt)) ≡ false → Enables settings bytes (answered answer settings)
   unchanged answer other = record { the_rest = (refl, refl); refused = λ _. refl; taken = λ t. absurd (eqb-false _ _ other t); short_form = λ _. refl }
 
   changed : (after : List ℕ) → KeepsTheRest settings after → sound after ≡ true → (length bytes ≡ short_form_size → drop 1 after ≡ drop 1 settings)
-      → Enables settings bytes (answered Taken after)
+      → Enables settings bytes (answered (Ok tt) after)
   changed after rest s short = record { the_rest = rest; refused = λ n. absurd (n refl); taken = λ _. s; short_form = short }
 
   module _ (s : Sound settings) where
@@ -119,8 +118,8 @@ module _ (settings bytes : List ℕ) where
         (λ m. changed _ (settings-keep-the-rest after settings sized s.has_room)
         (settings-sound after settings sized s.has_room a (rw (kept-bits-recoded (get_or settings 1 0) s.kept-is-bits) m))
         (λ _. rw (← one_byte) (drop-set-lt 1 settings 0 control (omega arith))))
-        (λ _. unchanged (Refused NoMac) refl))
-        (λ _. unchanged (Refused BadControl) refl)
+        (λ _. unchanged (Err NoMac) refl))
+        (λ _. unchanged (Err BadControl) refl)
 
     long-form-enables : length bytes ≡ long_form_size → Enables settings bytes (long_form_answered settings bytes)
     unfolding long_form_answered
@@ -131,20 +130,20 @@ module _ (settings bytes : List ℕ) where
         (λ a. changed _ (settings-keep-the-rest after settings sized s.has_room)
         (settings-sound after settings sized s.has_room a (given-mac-is-kept (get_or bytes 0 0) (settings_in settings).mac_kept after.address_kept))
         (λ short. absurd (omega arith)))
-        (λ _. unchanged (Refused BadControl) refl)
+        (λ _. unchanged (Err BadControl) refl)
 
 pub every-enable : EveryEnable
 unfolding receive_enabled
 every-enable settings bytes =
     if-cases (Enables settings bytes) _ _ _
-    (λ _. unchanged settings bytes (Refused TooShort) refl)
+    (λ _. unchanged settings bytes (Err TooShort) refl)
     (λ _. if-cases (Enables settings bytes) _ _ _
     (λ s. if-cases (Enables settings bytes) _ _ _
     (λ _. short-form-enables settings bytes (sound-tells settings s) (get_or bytes 0 0))
     (λ _. if-cases (Enables settings bytes) _ _ _
     (λ long. long-form-enables settings bytes (sound-tells settings s) (eqb-true _ _ long))
-    (λ _. unchanged settings bytes (Refused BadForm) refl)))
-    (λ _. unchanged settings bytes (Refused NotSound) refl))
+    (λ _. unchanged settings bytes (Err BadForm) refl)))
+    (λ _. unchanged settings bytes (Err NotSound) refl))
 
 pub recodes : Recodes
 recodes settings s = settings-recoded settings (sound-tells settings s).has_room (sound-tells settings s).kept-is-bits

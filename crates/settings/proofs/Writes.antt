@@ -1,19 +1,17 @@
 -- What the writes of a form leave in the bytes of a record.
 -- Assumes nothing.
-use Prim.Native.Nat.{ℕ, zero, suc, ◌+◌, ◌*◌, ◌%◌, ◌/◌, ◌≤◌}
+use Prim.Native.Nat.{ℕ, zero, suc, ◌+◌, ◌*◌, ◌≤◌}
 use mathlib.Core.Bool.{Bool, true, false}
 use mathlib.Core.List.{List, [], ◌∷◌, ◌++◌, append_assoc}
 use mathlib.Core.Path.{◌≡◌, refl, sym, ap, ◌∙◌}
-use native.Mathlib.Nat.{div-one}
 use native.Mathlib.Omega.{arith}
-use lib.Dec.{eqb}
 use lib.ListN.{length, get_or, set, take, drop, take-append-drop, length-append, replicate}
 use lib.Seq.{drop-cons, drop-drop}
-use borrow.Rule.Slice.PartMut.{put_mid}
+use mir.Val.{bool_byte}
 use Rattle.prelude.specs.Bits.{is_set}
 use Rattle.prelude.specs.Choice.{when◌then◌else◌, ◌or◌}
 use Rattle.prelude.specs.Parts.{part, put}
-use Rattle.prelude.proofs.Lists.{length_part, put-over-if}
+use Rattle.prelude.proofs.Lists.{length_part, put-over, put-over-if}
 use Rattle.settings.specs.Layout.{size, settings_in, with_settings, fresh_settings, kept_bits, has_dedicated_mac, responds_to_arp}
 use Rattle.settings.specs.Enable.{short_form, long_form}
 
@@ -26,10 +24,13 @@ kept-bits-recoded (suc (suc zero)) h = refl
 kept-bits-recoded (suc (suc (suc zero))) h = refl
 kept-bits-recoded (suc (suc (suc (suc k)))) h = absurd (omega arith)
 
--- a piece copied over the part of a slice that is as long
-pub copied-over-part : (bytes piece copy : List ℕ) (at n : ℕ) → n ≡ length piece → copy ≡ piece → put_mid at n bytes copy ≡ put bytes at piece
-unfolding put
-copied-over-part bytes piece copy at n h e = rw (h, e, drop-drop (length piece) at bytes)
+-- the same byte, from the bits' weights
+pub kept-bits-weighed : (mac ipv4 : Bool) → bool_byte mac + 2 * bool_byte ipv4 ≡ kept_bits mac ipv4
+unfolding when◌then◌else◌
+kept-bits-weighed true true = refl
+kept-bits-weighed true false = refl
+kept-bits-weighed false true = refl
+kept-bits-weighed false false = refl
 
 pub fresh-written : (bytes : List ℕ) → 0x40 ∷ replicate 14 0 ++ drop size bytes ≡ with_settings fresh_settings bytes
 unfolding with_settings when◌then◌else◌
@@ -39,33 +40,22 @@ fresh-written bytes = refl
 part-then-rest : (at n : ℕ) (bytes : List ℕ) → part at n bytes ++ drop (at + n) bytes ≡ drop at bytes
 part-then-rest at n bytes = ap (λ (r : List ℕ). take n (drop at bytes) ++ r) (sym (drop-drop n at bytes)) ∙ take-append-drop n (drop at bytes)
 
-module _ (bytes : List ℕ) (room : size ≤ length bytes) (bits : get_or bytes 1 0 ≤ 3) where
-  -- a record's bytes, from its settings
-  pub settings-recoded : with_settings (settings_in bytes) bytes ≡ bytes
-  unfolding with_settings settings_in
-  settings-recoded =
-      rw (kept-bits-recoded (get_or bytes 1 0) bits, part-then-rest 12 3 bytes, part-then-rest 8 4 bytes, part-then-rest 2 6 bytes)
+module _ (bytes : List ℕ) (room : size ≤ length bytes) where
+  -- a record's bytes, part by part
+  by-parts : get_or bytes 0 0 ∷ get_or bytes 1 0 ∷ part 2 6 bytes ++ (part 8 4 bytes ++ (part 12 3 bytes ++ drop size bytes)) ≡ bytes
+  by-parts =
+      rw (part-then-rest 12 3 bytes, part-then-rest 8 4 bytes, part-then-rest 2 6 bytes)
       (sym (drop-cons bytes 0 0 (omega arith) ∙ ap (λ (r : List ℕ). get_or bytes 0 0 ∷ r) (drop-cons bytes 1 0 (omega arith))))
 
-  pub short-form-written : (control : ℕ) → set bytes 0 control ≡ with_settings (short_form (settings_in bytes) control) bytes
-  unfolding with_settings settings_in
-  short-form-written control = ap (λ (l : List ℕ). set l 0 control) (sym settings-recoded)
+  module _ (bits : get_or bytes 1 0 ≤ 3) where
+    -- a record's bytes, from its settings
+    pub settings-recoded : with_settings (settings_in bytes) bytes ≡ bytes
+    unfolding with_settings settings_in
+    settings-recoded = rw (kept-bits-recoded (get_or bytes 1 0) bits) by-parts
 
--- a bit of the kept byte after the long form: 1 where the address is given, else as it was
-kept-bit-recoded : (given : Bool) (bit weight : ℕ) → bit ≤ 1 → weight * (when given then 1 else bit) ≡ (when given or eqb bit 1 then weight else 0)
-unfolding when◌then◌else◌
-kept-bit-recoded true bit weight h = omega arith
-kept-bit-recoded false zero weight h = omega arith
-kept-bit-recoded false (suc zero) weight h = omega arith
-kept-bit-recoded false (suc (suc bit)) weight h = absurd (omega arith)
-
-kept-bits-written : (mac ipv4 : Bool) (k : ℕ) → k ≤ 3
-    → (when mac then 1 else k % 2) + 2 * (when ipv4 then 1 else k / 2) ≡ kept_bits (mac or is_set 0 k) (ipv4 or is_set 1 k)
-kept-bits-written mac ipv4 k h =
-    let second : k / 2 % 2 ≡ k / 2 = omega arith in
-    let m : _ = kept-bit-recoded mac (k % 2) 1 (omega arith) in
-    let i : _ = kept-bit-recoded ipv4 (k / 2) 2 (omega arith) in
-    rw (div-one k, second, ← m, ← i) (omega arith)
+    pub short-form-written : (control : ℕ) → set bytes 0 control ≡ with_settings (short_form (settings_in bytes) control) bytes
+    unfolding with_settings settings_in
+    short-form-written control = ap (λ (l : List ℕ). set l 0 control) (sym settings-recoded)
 
 pub length-chosen : (given : Bool) (xs ys : List ℕ) (n : ℕ) → length xs ≡ n → length ys ≡ n → length (when given then xs else ys) ≡ n
 unfolding when◌then◌else◌
@@ -79,8 +69,8 @@ module _ (control kept : ℕ) (gives_mac gives_ipv4 : Bool) (mac new_mac ipv4 ne
   pieces-written : (bytes : List ℕ) → bytes ≡ control ∷ kept ∷ mac ++ (ipv4 ++ (unread ++ rest))
       → (let with_mac : List ℕ = when gives_mac then put bytes 2 new_mac else bytes in
       let with_ipv4 : List ℕ = when gives_ipv4 then put with_mac 8 new_ipv4 else with_mac in
-      (when true then put with_ipv4 12 new_unread else with_ipv4)
-      ≡ control ∷ kept ∷ (when gives_mac then new_mac else mac) ++ ((when gives_ipv4 then new_ipv4 else ipv4) ++ ((when true then new_unread else unread) ++ rest)))
+      put with_ipv4 12 new_unread
+      ≡ control ∷ kept ∷ (when gives_mac then new_mac else mac) ++ ((when gives_ipv4 then new_ipv4 else ipv4) ++ (new_unread ++ rest)))
   pieces-written bytes e =
       let mac' : List ℕ = when gives_mac then new_mac else mac in
       let ipv4' : List ℕ = when gives_ipv4 then new_ipv4 else ipv4 in
@@ -92,26 +82,24 @@ module _ (control kept : ℕ) (gives_mac gives_ipv4 : Bool) (mac new_mac ipv4 ne
         put-over-if gives_mac (control ∷ kept ∷ []) mac new_mac (ipv4 ++ (unread ++ rest)) 2 refl (mac-is ∙ sym new-mac-is),
         put-over-if gives_ipv4 (control ∷ kept ∷ mac') ipv4 new_ipv4 (unread ++ rest) 8 (omega arith) (ipv4-is ∙ sym new-ipv4-is),
         ← append_assoc mac' ipv4' (unread ++ rest),
-        put-over-if true (control ∷ kept ∷ mac' ++ ipv4') unread new_unread rest 12 head-is unread-is,
+        put-over (control ∷ kept ∷ mac' ++ ipv4') unread new_unread rest 12 head-is unread-is,
       )
       (ap (λ (l : List ℕ). control ∷ kept ∷ l) (append_assoc mac' ipv4' _))
 
-module _ (bytes form : List ℕ) (room : size ≤ length bytes) (bits : get_or bytes 1 0 ≤ 3) (long : length form ≡ 14) where
+module _ (bytes form : List ℕ) (room : size ≤ length bytes) (long : length form ≡ 14) where
   pub long-form-written :
       (let control : ℕ = get_or form 0 0 in
-      let kept : ℕ = get_or bytes 1 0 in
-      let with_bits : List ℕ =
-      set (set bytes 0 control) 1 ((when has_dedicated_mac control then 1 else kept % 2) + 2 * (when responds_to_arp control then 1 else kept / 2)) in
+      let kept : ℕ = kept_bits (has_dedicated_mac control or is_set 0 (get_or bytes 1 0)) (responds_to_arp control or is_set 1 (get_or bytes 1 0)) in
+      let with_bits : List ℕ = set (set bytes 0 control) 1 kept in
       let with_mac : List ℕ = when has_dedicated_mac control then put with_bits 2 (part 1 6 form) else with_bits in
       let with_ipv4 : List ℕ = when responds_to_arp control then put with_mac 8 (part 7 4 form) else with_mac in
-      (when true then put with_ipv4 12 (part 11 3 form) else with_ipv4) ≡ with_settings (long_form (settings_in bytes) form) bytes)
+      put with_ipv4 12 (part 11 3 form) ≡ with_settings (long_form (settings_in bytes) form) bytes)
   unfolding with_settings settings_in when◌then◌else◌
   long-form-written =
       let control : ℕ = get_or form 0 0 in
       let kept : ℕ = kept_bits (has_dedicated_mac control or is_set 0 (get_or bytes 1 0)) (responds_to_arp control or is_set 1 (get_or bytes 1 0)) in
-      rw (kept-bits-written (has_dedicated_mac control) (responds_to_arp control) (get_or bytes 1 0) bits)
-      (pieces-written control kept (has_dedicated_mac control) (responds_to_arp control)
+      pieces-written control kept (has_dedicated_mac control) (responds_to_arp control)
       (part 2 6 bytes) (part 1 6 form) (part 8 4 bytes) (part 7 4 form) (part 12 3 bytes) (part 11 3 form) (drop size bytes)
       (length_part 2 6 bytes (omega arith)) (length_part 1 6 form (omega arith)) (length_part 8 4 bytes (omega arith)) (length_part 7 4 form (omega arith))
       (length_part 12 3 bytes (omega arith) ∙ sym (length_part 11 3 form (omega arith)))
-      _ (ap (λ (l : List ℕ). set (set l 0 control) 1 kept) (sym (settings-recoded bytes room bits))))
+      _ (ap (λ (l : List ℕ). set (set l 0 control) 1 kept) (sym (by-parts bytes room)))

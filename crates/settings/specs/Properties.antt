@@ -1,12 +1,10 @@
 -- What the operations on the settings keep and write, whatever the bytes (manual 5.4, 5.5, 5.6).
-use Rattle.std.specs.Prelude.{ℕ, ◌+◌, ◌≤◌, ◌<◌, true, List, ◌⊎◌, ◌≡◌, length, get_or, drop}
+use Rattle.std.specs.Prelude.{ℕ, ◌+◌, ◌≤◌, ◌<◌, true, List, Ok, Err, ◌⊎◌, ◌≡◌, length, get_or, drop}
 use Rattle.prelude.specs.Bits.{is_set}
 use Rattle.prelude.specs.Choice.{when◌then◌else◌, ◌or◌}
-use Rattle.settings.specs.declared.enable.Enabled.{Enabled}
-use Rattle.settings.specs.declared.enable.Enabled.TheVariants.{Taken}
 use Rattle.settings.specs.declared.enable.Refusal.TheVariants.{TooShort}
 use Rattle.settings.specs.Layout.{size, control_at, kept_at, mac_at, ipv4_at, unread_at, mac_size, ipv4_size, unread_size, kept_bits, has_dedicated_mac, responds_to_arp, settings_in, with_settings, sound}
-use Rattle.settings.specs.Enable.{refusal_number, number_of, success, Answered, freshened, short_form_size, long_form_size, receive_enabled}
+use Rattle.settings.specs.Enable.{number_of, Answer, Answered, freshened, short_form_size, long_form_size, receive_enabled}
 
 -- sound settings are what they hold written out, so that to set one part is to change its bytes alone (manual 5.3)
 abbrev pub Recodes : Type 0
@@ -17,10 +15,10 @@ abbrev pub KeepsTheRest : List ℕ → List ℕ → Type 0
 KeepsTheRest before after = (length after ≡ length before) × (drop size after ≡ drop size before)
 
 -- of Receive Enable: any number but 11 leaves the settings, and 11 sound ones (manual 5.6)
-pub record Enables (before bytes : List ℕ) (after : Answered Enabled) : Type 0 where
+pub record Enables (before bytes : List ℕ) (after : Answered Answer) : Type 0 where
   pub the_rest : KeepsTheRest before after.settings
-  pub refused : (number_of after.answer ≡ number_of Taken → ⊥) → after.settings ≡ before
-  pub taken : number_of after.answer ≡ number_of Taken → sound after.settings ≡ true
+  pub refused : (number_of after.answer ≡ number_of (Ok tt) → ⊥) → after.settings ≡ before
+  pub taken : number_of after.answer ≡ number_of (Ok tt) → sound after.settings ≡ true
   pub short_form : length bytes ≡ short_form_size → drop 1 after.settings ≡ drop 1 before
 
 abbrev pub EveryEnable : Type 0
@@ -47,19 +45,19 @@ pub record WritesLong (before form after : List ℕ) : Type 0 where
   pub others : (k : ℕ) → size ≤ k → get_or after k 0 ≡ get_or before k 0
 
 -- a Receive Enable that is taken is one of the two forms (manual 5.2)
-pub record Writes (before form : List ℕ) (after : Answered Enabled) : Type 0 where
-  pub two_forms : number_of after.answer ≡ number_of Taken → (length form ≡ short_form_size) ⊎ (length form ≡ long_form_size)
-  pub short_form : number_of after.answer ≡ number_of Taken → length form ≡ short_form_size → WritesShort before form after.settings
-  pub long_form : number_of after.answer ≡ number_of Taken → length form ≡ long_form_size → WritesLong before form after.settings
+pub record Writes (before form : List ℕ) (after : Answered Answer) : Type 0 where
+  pub two_forms : number_of after.answer ≡ number_of (Ok tt) → (length form ≡ short_form_size) ⊎ (length form ≡ long_form_size)
+  pub short_form : number_of after.answer ≡ number_of (Ok tt) → length form ≡ short_form_size → WritesShort before form after.settings
+  pub long_form : number_of after.answer ≡ number_of (Ok tt) → length form ≡ long_form_size → WritesLong before form after.settings
 
 abbrev pub EveryWriting : Type 0
 EveryWriting = (settings bytes : List ℕ) → Writes settings bytes (receive_enabled settings bytes)
 
 -- of fresh settings (manual 5.4)
-pub record Freshens (before : List ℕ) (after : Answered ℕ) : Type 0 where
+pub record Freshens (before : List ℕ) (after : Answered Answer) : Type 0 where
   pub the_rest : KeepsTheRest before after.settings
-  pub refused : length before < size → (after.answer ≡ refusal_number TooShort) × (after.settings ≡ before)
-  pub written : size ≤ length before → (after.answer ≡ success) × (sound after.settings ≡ true)
+  pub refused : length before < size → (after.answer ≡ Err TooShort) × (after.settings ≡ before)
+  pub written : size ≤ length before → (after.answer ≡ Ok tt) × (sound after.settings ≡ true)
 
 abbrev pub EveryFresh : Type 0
 EveryFresh = (settings : List ℕ) → Freshens settings (freshened settings)

@@ -8,9 +8,9 @@ mod enable;
 
 ghost use Rattle.std.specs.Prelude.{◌≡◌};
 ghost use Rattle.settings.specs.Layout.{allowed, has_its_mac, sound};
-ghost use Rattle.settings.specs.Enable.{answered, freshened};
+ghost use Rattle.settings.specs.Enable.{answered, fresh_number, freshened};
 
-pub use enable::{Enabled, Refusal, number, receive_enable, refusal_number};
+pub use enable::{Refusal, number, receive_enable};
 
 pub const SIZE: usize = 15;
 
@@ -44,23 +44,31 @@ pub const IPV4_KEPT: u8 = 2;
 // Both addresses kept.
 const MAX_KEPT: u8 = 3;
 
+// The answer number of fresh settings that are written.
 const DONE: u32 = 0;
-
-pub(crate) const TOO_SHORT: u32 = 12;
 
 const FRESH: [u8; SIZE] = [0x40, 0, 0, 0, 0, 0, 0, 0, 0, 0, 0, 0, 0, 0, 0];
 
-// Writes fresh settings and answers 0, or answers 12 and changes nothing where there are fewer than
-// SIZE bytes.
+// Writes fresh settings, and changes nothing where there are fewer than SIZE bytes.
 #[tactic(auto, using(crate::proofs::Tests::bit_tests), unfolding(crate::specs::Enable::freshened))]
-pub fn fresh(settings: &mut [u8]) -> u32
+pub fn fresh(settings: &mut [u8]) -> Result<(), Refusal>
     ensures { answered result settings.new ≡ freshened settings.old }
 {
     if settings.len() < SIZE {
-        return TOO_SHORT;
+        return Err(Refusal::TooShort);
     }
     settings[..SIZE].copy_from_slice(&FRESH);
-    DONE
+    Ok(())
+}
+
+// The answer number of fresh settings.
+pub fn fresh_number(freshened: Result<(), Refusal>) -> u32
+    ensures { result ≡ fresh_number freshened }
+{
+    match freshened {
+        Ok(()) => DONE,
+        Err(refusal) => u32::from(refusal),
+    }
 }
 
 // Whether there are SIZE bytes or more and they are sound settings.

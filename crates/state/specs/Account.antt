@@ -1,7 +1,9 @@
 -- The account: its grid of rows and columns, and the numbers beside it (manual 8.2, 8.5, 8.6).
-use Rattle.std.specs.Prelude.{ℕ, zero, suc, ◌+◌, ◌*◌, Bool, List, ◌≡◌, ltb, length, get_or}
+use Rattle.std.specs.Prelude.{ℕ, zero, suc, ◌+◌, ◌*◌, Bool, List, Option, None, Some, ◌≡◌, ltb, length, get_or}
 use Rattle.state.specs.declared.Account.{Account}
 use Rattle.state.specs.declared.Beside.{Beside}
+use Rattle.state.specs.declared.row.Row.{Row}
+use Rattle.state.specs.declared.row.Row.TheVariants as row
 
 -- the total at which an account is full (manual 8.6)
 abbrev pub limit : ℕ
@@ -38,9 +40,26 @@ badlength = 8
 abbrev pub row_count : ℕ
 row_count = 9
 
--- in the place of a row where there is none (manual 8.4)
+-- the number of a row (manual 8.2)
+abbrev pub place_of : Row → ℕ
+place_of row.Sent = sent
+place_of row.Superseded = superseded
+place_of row.Flushed = flushed
+place_of row.Broken = broken
+place_of row.Over = over
+place_of row.Short = short
+place_of row.LinkDown = linkdown
+place_of row.Aborted = aborted
+place_of row.BadLength = badlength
+
+-- in the place of a row's number where there is no row (manual 8.4)
 abbrev pub no_row : ℕ
 no_row = row_count
+
+-- the number of a row that is given, or `no_row` (manual 8.4)
+abbrev pub row_number : Option Row → ℕ
+row_number None = no_row
+row_number (Some row) = place_of row
 
 -- packets, fragments and bytes (manual 8.2)
 abbrev pub columns : ℕ

@@ -1,4 +1,6 @@
-// The grid as rows of three, as it is counted in, and as the one list that an account holds.
+// The grid as rows of three, as it is counted in, and as the one list that an account holds. Both are
+// written out: the proof of `array::from_fn` over the rows did not close, and in `as_chunks` and
+// `as_flattened` no place could be exchanged, as the edits rows_of_repeats_a_row and flat_of_repeats_a_cell do.
 ghost use Rattle.std.specs.Prelude.{◌≡◌};
 ghost use Rattle.state.specs.Grid.{rows_of, flat_of};
 

@@ -3,19 +3,21 @@
 #![tactic(auto)]
 
 mod grid;
+mod row;
 mod sound;
 
 ghost use Rattle.std.specs.Prelude.{◌≡◌};
 ghost use Rattle.state.specs.State.{fresh_state, made};
 
 pub use grid::{flat_of, rows_of};
+pub use row::Row;
 pub use sound::{are_sound, is_account_sound, is_sound};
 
 // Any numbers may be handed in; is_account_sound tells those that are sound.
 #[repr(C)]
 #[derive(Clone, Copy)]
 pub struct Account {
-    // Packets, fragments and bytes of each fate, in the rows SENT to BADLENGTH.
+    // Packets, fragments and bytes of each row.
     pub grid: [u64; CELLS],
     pub beside: Beside,
 }
@@ -44,6 +46,7 @@ pub struct State {
 }
 
 // A fresh state, and the answer: 0, or 16 with the state for MAX_MAXIMUM.
+// A number and no Result: C sees this struct, and gets a state that can be used with either answer.
 #[repr(C)]
 #[derive(Clone, Copy)]
 pub struct Made {
@@ -56,29 +59,20 @@ pub const LIMIT: u64 = 4294967295;
 
 pub const MAX_MAXIMUM: u64 = 240;
 
-// Rows of the grid.
-pub const SENT: usize = 0;
-
-pub const SUPERSEDED: usize = 1;
-
-pub const FLUSHED: usize = 2;
-
-pub const BROKEN: usize = 3;
-
-pub const OVER: usize = 4;
-
-pub const SHORT: usize = 5;
-
-pub const LINKDOWN: usize = 6;
-
-pub const ABORTED: usize = 7;
-
-pub const BADLENGTH: usize = 8;
-
 pub const ROW_COUNT: usize = 9;
 
-// In the place of a row where there is none.
-pub const NO_ROW: usize = ROW_COUNT;
+// The rows, as they are counted and printed.
+pub const ROWS: [Row; ROW_COUNT] = [
+    Row::Sent,
+    Row::Superseded,
+    Row::Flushed,
+    Row::Broken,
+    Row::Over,
+    Row::Short,
+    Row::LinkDown,
+    Row::Aborted,
+    Row::BadLength,
+];
 
 // Columns of a row.
 pub const PACKETS: usize = 0;
@@ -100,14 +94,8 @@ const BAD_MAXIMUM: u32 = 16;
 pub fn fresh(maximum: u32) -> Made
     ensures { result ≡ made maximum }
 {
-    if maximum < 1 {
-        return Made {
-            answer: BAD_MAXIMUM,
-            state: empty(MAX_MAXIMUM),
-        };
-    }
-    let maximum = maximum as u64;
-    if MAX_MAXIMUM < maximum {
+    let maximum = u64::from(maximum);
+    if maximum < 1 || MAX_MAXIMUM < maximum {
         return Made {
             answer: BAD_MAXIMUM,
             state: empty(MAX_MAXIMUM),

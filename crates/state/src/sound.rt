@@ -7,11 +7,14 @@ ghost use Rattle.state.specs.Sound.{account_sound, open_sound, row_sound, rows_s
 ghost use Rattle.state.specs.State.{state_of};
 
 use crate::{
-    ABORTED, Account, BADLENGTH, BYTES, Beside, CELLS, COLUMNS, FRAGMENTS, LIMIT, MAX_MAXIMUM,
-    PACKETS, State,
+    Account, BYTES, Beside, CELLS, COLUMNS, FRAGMENTS, LIMIT, MAX_MAXIMUM, PACKETS, Row, State,
 };
 
-// Cells of the rows that hold single fragments.
+// The rows that hold single fragments, and their cells.
+const ABORTED: usize = Row::Aborted as usize;
+
+const BADLENGTH: usize = Row::BadLength as usize;
+
 const ABORTED_PACKETS: usize = ABORTED * COLUMNS + PACKETS;
 
 const BADLENGTH_PACKETS: usize = BADLENGTH * COLUMNS + PACKETS;
@@ -24,17 +27,14 @@ const BADLENGTH_BYTES: usize = BADLENGTH * COLUMNS + BYTES;
 pub fn is_sound(state: State) -> bool
     ensures { result ≡ sound state }
 {
-    let account = state.account;
-    let grid = account.grid;
-    are_sound(&grid, account.beside, state.maximum)
+    are_sound(&state.account.grid, state.account.beside, state.maximum)
 }
 
 // Whether the account is sound.
 pub fn is_account_sound(account: Account) -> bool
     ensures { result ≡ account_sound account }
 {
-    let grid = account.grid;
-    is_grid_sound(&grid, account.beside)
+    is_grid_sound(&account.grid, account.beside)
 }
 
 // Whether the state of a grid, of the numbers beside it and of a maximum is sound.
@@ -78,7 +78,8 @@ fn is_grid_sound(grid: &[u64; CELLS], beside: Beside) -> bool
     are_rows_sound(grid, left - beside.refused)
 }
 
-// Whether an open packet of no more fragments than an account has is sound.
+// Whether an open packet of no more fragments than an account has is sound. The bound stands in three
+// contracts (no plainer in a type: it is of another number in each).
 #[tactic(auto, using(prelude::proofs::Tests::tests), unfolding(crate::specs::Sound::open_sound))]
 fn is_open_sound(fragments: u64, bytes: u64) -> bool
     requires { fragments ≤ limit }
@@ -97,8 +98,7 @@ fn are_rows_sound(grid: &[u64; CELLS], wanted: u64) -> bool
     ensures { result ≡ (rows_sound row_count grid.now and (singles_sound grid.now and eqb (all_fragments row_count grid.now) wanted)) }
 {
     let mut left = wanted;
-    let mut row: usize = 0;
-    while row < BADLENGTH {
+    for row in 0..BADLENGTH {
         let at = row * COLUMNS;
         let fragments = grid[at + FRAGMENTS];
         if left < fragments {
@@ -108,7 +108,6 @@ fn are_rows_sound(grid: &[u64; CELLS], wanted: u64) -> bool
             return false;
         }
         left -= fragments;
-        row += 1;
     }
     if grid[ABORTED_PACKETS] != 0 {
         return false;

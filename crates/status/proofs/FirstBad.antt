@@ -9,20 +9,18 @@ use lib.Dec.{eqb, ltb}
 use lib.ListN.{length, get_or}
 use borrow.Author.Count.{below_none, below_more}
 use borrow.Author.Tests.{ltb-true, ltb-false, eqb-true, eqb-false, not-true, not-false}
+use Rattle.std.specs.Prelude.{Result, Ok, Err, IsOk}
 use Rattle.prelude.specs.Choice.{when◌then◌else◌}
 use Rattle.prelude.proofs.Tests.{if-cases}
 use Rattle.status.specs.declared.Fields.{Fields}
-use Rattle.status.specs.declared.Parsed.{Parsed}
-use Rattle.status.specs.declared.judge.Answer.{Answer}
-use Rattle.status.specs.declared.judge.Answer.TheVariants.{Done, NotAllowed}
 use Rattle.status.specs.declared.judge.Field.{Field}
 use Rattle.status.specs.declared.judge.Field.TheVariants.{BlockSize, Length, PacketStatus, MngReserved, DecisionIndex, VlanIndex}
 use Rattle.status.specs.Judged.{field_number, number_of, bad_field_number, max_length, packet_status, max_decision_index, max_vlan_index, bad_length, bad_index, judged}
-use Rattle.status.specs.Block.{word_at, fields_of, mng_reserved, parsed_words, parsed, written}
+use Rattle.status.specs.Block.{told, block, word_at, mng_reserved, fields_at, judged_block, parsed, written}
 use Rattle.status.specs.Properties.{AreBytes, fields_in, GoodIndex, GoodToWrite, GoodToRead, in_order, field_at, TellsFirstBad, FirstBadTold}
 
 -- the statement, of an answer
-abbrev Tells : (Field → Type 0) → Answer → Type 0
+abbrev Tells : (Field → Type 0) → {A : Type 0} → Result A Field → Type 0
 Tells Good answer = TellsFirstBad Good (number_of answer) (bad_field_number answer)
 
 -- a test that says whether something is bad
@@ -34,17 +32,17 @@ module _ (Good : Field → Type 0) where
   abbrev UpTo : ℕ → Type 0
   UpTo place = (earlier : ℕ) → earlier < place → Good (field_at earlier)
 
-  first-bad : (field : Field) (place : ℕ) → field_number field ≡ suc place → place < length in_order → (Good (field_at place) → ⊥) → UpTo place → Tells Good (NotAllowed field)
+  first-bad : (field : Field) (place : ℕ) → field_number field ≡ suc place → place < length in_order → (Good (field_at place) → ⊥) → UpTo place → Tells Good {A = Unit} (Err field)
   first-bad field place number within bad before =
-      let fifteen : number_of (NotAllowed field) ≡ 15 = omega arith in
-      subst (TellsFirstBad Good (number_of (NotAllowed field))) (sym number) (fifteen, within, bad, before)
+      let fifteen : number_of {A = Unit} (Err field) ≡ 15 = omega arith in
+      subst (TellsFirstBad Good (number_of {A = Unit} (Err field))) (sym number) (fifteen, within, bad, before)
 
   -- a test in its place, before others
-  at_place : (field : Field) (place : ℕ) (bad : Bool) (rest : Answer) → field_number field ≡ suc place → place < length in_order → Tests bad (Good (field_at place)) → UpTo place
+  at_place : (field : Field) (place : ℕ) (bad : Bool) (rest : Result Unit Field) → field_number field ≡ suc place → place < length in_order → Tests bad (Good (field_at place)) → UpTo place
       → (UpTo (place + 1) → Tells Good rest)
-      → Tells Good (when bad then NotAllowed field else rest)
+      → Tells Good (when bad then Err field else rest)
   at_place field place bad rest number within tests before after =
-      if-cases (Tells Good) bad (NotAllowed field) rest
+      if-cases (Tells Good) bad (Err field) rest
       (λ e. first-bad field place number within (tests.refuses e) before)
       (λ e. after (below_more (λ (p : ℕ). Good (field_at p)) place before (tests.passes e)))
 
@@ -64,6 +62,12 @@ module _ (Good : Field → Type 0) where
       (λ c. at_place DecisionIndex 4 _ _ (omega arith) (omega arith) decision c
       (λ d. at_place VlanIndex 5 _ _ (omega arith) (omega arith) vlan d
       (λ e. (refl, e))))))
+
+  -- with what was asked for, where no field is bad
+  told-tells : {A : Type 0} (answer : Result Unit Field) (a : A) → Tells Good answer → Tells Good (told answer a)
+  unfolding told
+  told-tells (Ok _) a tells = tells
+  told-tells (Err field) a tells = tells
 
 length-tested : (length : ℕ) → Tests (bad_length length) ((1 ≤ length) × (length ≤ 1536))
 unfolding bad_length
@@ -97,15 +101,15 @@ reserved-tested low high small =
 never-bad : {Good : Type 0} → Good → Tests false Good
 never-bad good = record { refuses = λ e. absurd (false≢true e); passes = λ _. good }
 
-writing : (f : Fields) → Tells (GoodToWrite f) (written f).answer
+writing : (f : Fields) → Tells (GoodToWrite f) (written f)
 unfolding written
 writing f =
-    judged-tells (GoodToWrite f) f packet_status 0 tt (length-tested f.length) (never-bad tt) (never-bad tt)
+    told-tells (GoodToWrite f) _ (block f) (judged-tells (GoodToWrite f) f packet_status 0 tt (length-tested f.length) (never-bad tt) (never-bad tt)
     (index-tested f.decision_match f.decision_index max_decision_index (omega arith))
-    (index-tested f.vlan_match f.vlan_index max_vlan_index (omega arith))
+    (index-tested f.vlan_match f.vlan_index max_vlan_index (omega arith)))
 
 -- the fields of a block in words are those in its bytes
-pub words-are-bytes : (b : List ℕ) → AreBytes b → fields_of (word_at b 0) (word_at b 4) (word_at b 6) ≡ fields_in b
+pub words-are-bytes : (b : List ℕ) → AreBytes b → fields_at b ≡ fields_in b
 words-are-bytes b bytes =
     let low : get_or b 6 0 < 256 = bytes 6 in
     let high : get_or b 7 0 < 256 = bytes 7 in
@@ -123,10 +127,11 @@ words-are-bytes b bytes =
       vlan_index = vlan-index i;
     }
 
-reading : (b : List ℕ) → AreBytes b → Tells (GoodToRead b) (parsed b).answer
-unfolding parsed parsed_words
+reading : (b : List ℕ) → AreBytes b → Tells (GoodToRead b) (parsed b)
+unfolding parsed judged_block
 reading b bytes =
-    if-cases (λ (p : Parsed). Tells (GoodToRead b) p.answer) (eqb (length b) 8) _ _
+    told-tells (GoodToRead b) _ (fields_at b)
+    (if-cases (Tells (GoodToRead b)) (eqb (length b) 8) _ _
     (λ e. subst (λ (f : Fields). Tells (GoodToRead b) (judged f (word_at b 2) (mng_reserved (word_at b 6)))) (sym (words-are-bytes b bytes))
     (judged-tells (GoodToRead b) (fields_in b) (word_at b 2) (mng_reserved (word_at b 6)) (eqb-true (length b) 8 e)
     (length-tested (fields_in b).length)
@@ -134,7 +139,7 @@ reading b bytes =
     (reserved-tested (get_or b 6 0) (get_or b 7 0) (bytes 6))
     (index-tested (fields_in b).decision_match (fields_in b).decision_index max_decision_index (omega arith))
     (index-tested (fields_in b).vlan_match (fields_in b).vlan_index max_vlan_index (omega arith))))
-    (λ e. first-bad (GoodToRead b) BlockSize 0 (omega arith) (omega arith) (eqb-false (length b) 8 e) (below_none _))
+    (λ e. first-bad (GoodToRead b) BlockSize 0 (omega arith) (omega arith) (eqb-false (length b) 8 e) (below_none _)))
 
 pub first-bad-told : FirstBadTold
 first-bad-told = record { writing = writing; reading = reading }
@@ -148,15 +153,15 @@ every-field Good good MngReserved = good 3 (omega arith)
 every-field Good good DecisionIndex = good 4 (omega arith)
 every-field Good good VlanIndex = good 5 (omega arith)
 
--- done exactly where every field is good
-pub good-where-done : (Good : Field → Type 0) (answer : Answer) → Tells Good answer → answer ≡ Done → (field : Field) → Good field
-good-where-done Good Done tells e = every-field Good tells.1
-good-where-done Good (NotAllowed field) tells e = let z : ◌≡◌ {A = ℕ} 0 1 = cc in absurd (omega arith)
+-- nothing is refused exactly where every field is good
+pub good-where-done : (Good : Field → Type 0) {A : Type 0} (answer : Result A Field) → Tells Good answer → IsOk answer → (field : Field) → Good field
+good-where-done Good (Ok _) tells done = every-field Good tells.1
+good-where-done Good (Err field) tells done = absurd (false≢true done)
 
-pub done-where-good : (Good : Field → Type 0) (answer : Answer) → Tells Good answer → ((field : Field) → Good field) → answer ≡ Done
-done-where-good Good Done tells good = refl
-done-where-good Good (NotAllowed field) tells good = by_number (field_number field) tells
+pub done-where-good : (Good : Field → Type 0) {A : Type 0} (answer : Result A Field) → Tells Good answer → ((field : Field) → Good field) → IsOk answer
+done-where-good Good (Ok _) tells good = refl
+done-where-good Good (Err field) tells good = absurd (by_number (field_number field) tells)
   where
-    by_number : (number : ℕ) → TellsFirstBad Good 15 number → NotAllowed field ≡ Done
+    by_number : (number : ℕ) → TellsFirstBad Good 15 number → ⊥
     by_number zero (answer, _) = absurd (omega arith)
-    by_number (suc place) (_, _, bad, _) = absurd (bad (good (field_at place)))
+    by_number (suc place) (_, _, bad, _) = bad (good (field_at place))

@@ -6,54 +6,58 @@ use mathlib.Core.List.{List, [], ◌∷◌}
 use mathlib.Core.Path.{◌≡◌, refl, sym, ap, ◌∙◌, subst}
 use native.Mathlib.Omega.{arith}
 use lib.Dec.{eqb}
-use lib.ListN.{length, get_or, replicate}
+use lib.ListN.{get_or, replicate}
+use Rattle.std.specs.Prelude.{Result, Ok, Err, IsOk}
+use Rattle.std.specs.Result.{ResultUnwrapsOrElse}
 use Rattle.prelude.specs.Choice.{when◌then◌else◌}
 use Rattle.prelude.proofs.Lists.{all-elements}
-use Rattle.prelude.proofs.Tests.{if-cases}
 use Rattle.status.specs.declared.Fields.{Fields}
-use Rattle.status.specs.declared.Written.{Written}
-use Rattle.status.specs.declared.Parsed.{Parsed}
-use Rattle.status.specs.declared.judge.Answer.{Answer}
-use Rattle.status.specs.declared.judge.Answer.TheVariants.{Done, NotAllowed}
 use Rattle.status.specs.declared.judge.Field.{Field}
 use Rattle.status.specs.declared.judge.Field.TheVariants.{BlockSize, Length, PacketStatus, MngReserved, DecisionIndex, VlanIndex}
-use Rattle.status.specs.Block.{match_bit, mng_status, block, if_done, written, word_at, fields_of, no_fields, parsed_words, parsed}
+use Rattle.status.specs.Block.{match_bit, mng_status, block, told, if_done, written, block_back, word_at, no_fields, parsed, fields_back}
 use Rattle.status.specs.Properties.{HasTag, AreBytes, RoundTrip, fields_in, ComesBack, GoodToWrite, GoodToRead}
 use Rattle.status.proofs.FirstBad.{words-are-bytes, first-bad-told, good-where-done, done-where-good}
 
--- what comes back, by the answer
-done-given : {A : Type 0} (answer : Answer) (a zeros : A) → answer ≡ Done → if_done answer a zeros ≡ a
-unfolding if_done
-done-given answer a zeros e = rw e
+-- what is told, and what comes back with it
+module _ {A : Type 0} (zeros : A) where
+  told-done : (answer : Result Unit Field) (a b : A) → told answer a ≡ Ok b → (a ≡ b) × (if_done answer a zeros ≡ b)
+  unfolding told if_done
+  told-done (Ok _) a b e = (cc, cc)
+  told-done (Err field) a b e = absurd (cc)
 
-refused-zeros : {A : Type 0} (answer : Answer) (a zeros : A) (field : Field) → answer ≡ NotAllowed field → if_done answer a zeros ≡ zeros
-unfolding if_done
-refused-zeros answer a zeros field e = rw e
+  told-refused : (answer : Result Unit Field) (a : A) (field : Field) → told answer a ≡ Err field → if_done answer a zeros ≡ zeros
+  unfolding told if_done
+  told-refused (Ok _) a field e = absurd (cc)
+  told-refused (Err _) a field e = refl
 
-written-block : (f : Fields) → (written f).answer ≡ Done → written f ≡ record { answer = Done; block = block f }
-unfolding written
-written-block f e = λ i. record { answer = e i; block = done-given _ (block f) (replicate 8 0) e i }
-
-not_written : (f : Fields) (field : Field) → (written f).answer ≡ NotAllowed field → (written f).block ≡ replicate 8 0
-unfolding written
-not_written f field e = refused-zeros _ (block f) (replicate 8 0) field e
-
-not_read : (b : List ℕ) (field : Field) → (parsed b).answer ≡ NotAllowed field → (parsed b).fields ≡ no_fields
-unfolding parsed parsed_words
-not_read b field =
-    if-cases (λ (p : Parsed). p.answer ≡ NotAllowed field → p.fields ≡ no_fields) (eqb (length b) 8) _ _
-    (λ _ e. refused-zeros _ (fields_of (word_at b 0) (word_at b 4) (word_at b 6)) no_fields field e)
-    (λ _ _. refl)
-
-read : (b : List ℕ) → AreBytes b → (parsed b).answer ≡ Done → (parsed b).fields ≡ fields_in b
-unfolding parsed parsed_words
-read b bytes =
-    if-cases (λ (p : Parsed). p.answer ≡ Done → p.fields ≡ fields_in b) (eqb (length b) 8) _ _
-    (λ _ e. done-given _ (fields_of (word_at b 0) (word_at b 4) (word_at b 6)) no_fields e ∙ words-are-bytes b bytes)
-    (λ _ e. let z : ◌≡◌ {A = ℕ} 0 1 = cc in absurd (omega arith))
+done-is-told : {A : Type 0} (answer : Result A Field) → IsOk answer → (a : A) × (answer ≡ Ok a)
+done-is-told (Ok a) done = (a, refl)
+done-is-told (Err field) done = absurd (cc)
 
 pub comes_back : ComesBack
-comes_back = record { read = read; not_read = not_read; not_written = not_written }
+unfolding written block_back parsed fields_back
+comes_back = record {
+  read = λ b f bytes e. (sym (told-done no_fields _ _ f e).0 ∙ words-are-bytes b bytes, (told-done no_fields _ _ f e).1);
+  written_back = λ f b e. (told-done (replicate 8 0) _ _ b e).1;
+  not_read = λ b field e. told-refused no_fields _ _ field e;
+  not_written = λ f field e. told-refused (replicate 8 0) _ _ field e;
+}
+
+-- zeros taken where nothing is told are what comes back
+zeros-come-back : {A : Type 0} (zeros : A) (IsZeros : A → Type 0) (answer : Result Unit Field) (a x : A) → ((z : A) → IsZeros z → z ≡ zeros)
+    → ResultUnwrapsOrElse (told answer a) IsZeros x
+    → x ≡ if_done answer a zeros
+unfolding told if_done
+zeros-come-back zeros IsZeros (Ok _) a x only taken = taken
+zeros-come-back zeros IsZeros (Err field) a x only taken = only x taken
+
+pub block-taken : (IsZeros : List ℕ → Type 0) (f : Fields) (x : List ℕ) → ((z : List ℕ) → IsZeros z → z ≡ replicate 8 0) → ResultUnwrapsOrElse (written f) IsZeros x → x ≡ block_back f
+unfolding written block_back
+block-taken IsZeros f x = zeros-come-back (replicate 8 0) IsZeros _ _ x
+
+pub fields-taken : (IsZeros : Fields → Type 0) (b : List ℕ) (x : Fields) → ((z : Fields) → IsZeros z → z ≡ no_fields) → ResultUnwrapsOrElse (parsed b) IsZeros x → x ≡ fields_back b
+unfolding parsed fields_back
+fields-taken IsZeros b x = zeros-come-back no_fields IsZeros _ _ x
 
 -- a match bit as the number that it is
 record MatchBit (matched : Bool) : Type 0 where
@@ -143,13 +147,21 @@ module _ (f : Fields) (good : (field : Field) → GoodToWrite f field) where
   block-good DecisionIndex = subst (λ (g : Fields). GoodToWrite g DecisionIndex) (sym fields-recovered) (good DecisionIndex)
   block-good VlanIndex = subst (λ (g : Fields). GoodToWrite g VlanIndex) (sym fields-recovered) (good VlanIndex)
 
-written_is_read : (f : Fields) → HasTag f → (written f).answer ≡ Done → parsed (written f).block ≡ record { answer = Done; fields = f }
-written_is_read f tag e =
-    let good : (field : Field) → GoodToWrite f field = good-where-done (GoodToWrite f) _ (first-bad-told.writing f) e in
+done-where-told : {A : Type 0} (answer : Result A Field) (a : A) → answer ≡ Ok a → IsOk answer
+done-where-told (Ok _) a e = refl
+done-where-told (Err _) a e = absurd (cc)
+
+written_is_block : (f : Fields) (b : List ℕ) → written f ≡ Ok b → block f ≡ b
+unfolding written
+written_is_block f b e = (told-done [] _ _ b e).0
+
+written_is_read : (f : Fields) (b : List ℕ) → HasTag f → written f ≡ Ok b → parsed b ≡ Ok f
+written_is_read f b tag e =
+    let good : (field : Field) → GoodToWrite f field = good-where-done (GoodToWrite f) _ (first-bad-told.writing f) (done-where-told _ b e) in
     let bytes : AreBytes (block f) = block-bytes f good tag in
-    let done : (parsed (block f)).answer ≡ Done = done-where-good (GoodToRead (block f)) _ (first-bad-told.reading (block f) bytes) (block-good f good) in
-    let fields : (parsed (block f)).fields ≡ f = read (block f) bytes done ∙ fields-recovered f good in
-    rw (written-block f e) (λ i. record { answer = done i; fields = fields i })
+    let read-back : _ = done-is-told (parsed (block f)) (done-where-good (GoodToRead (block f)) _ (first-bad-told.reading (block f) bytes) (block-good f good)) in
+    subst (λ (l : List ℕ). parsed l ≡ Ok f) (written_is_block f b e)
+    (read-back.1 ∙ ap Ok ((comes_back.read (block f) read-back.0 bytes read-back.1).0 ∙ fields-recovered f good))
 
 bit-weighed : (bit weight : ℕ) → bit ≤ 1 → match_bit (eqb bit 1) weight ≡ bit * weight
 unfolding when◌then◌else◌
@@ -193,13 +205,13 @@ module _ (b : List ℕ) (bytes : AreBytes b) (good : (field : Field) → GoodToR
   fields-good DecisionIndex = good DecisionIndex
   fields-good VlanIndex = good VlanIndex
 
-read_is_written : (b : List ℕ) → AreBytes b → (parsed b).answer ≡ Done → written (parsed b).fields ≡ record { answer = Done; block = b }
-read_is_written b bytes e =
-    let good : (field : Field) → GoodToRead b field = good-where-done (GoodToRead b) _ (first-bad-told.reading b bytes) e in
-    let f : Fields = fields_in b in
-    let done : (written f).answer ≡ Done = done-where-good (GoodToWrite f) _ (first-bad-told.writing f) (fields-good b bytes good) in
-    subst (λ (g : Fields). written g ≡ record { answer = Done; block = b }) (sym (read b bytes e))
-    (written-block f done ∙ ap (λ (l : List ℕ). record { answer = Done; block = l }) (block-recovered b bytes good))
+read_is_written : (b : List ℕ) (f : Fields) → AreBytes b → parsed b ≡ Ok f → written f ≡ Ok b
+read_is_written b f bytes e =
+    let good : (field : Field) → GoodToRead b field = good-where-done (GoodToRead b) _ (first-bad-told.reading b bytes) (done-where-told _ f e) in
+    let g : Fields = fields_in b in
+    let written-back : _ = done-is-told (written g) (done-where-good (GoodToWrite g) _ (first-bad-told.writing g) (fields-good b bytes good)) in
+    subst (λ (h : Fields). written h ≡ Ok b) (sym (comes_back.read b f bytes e).0)
+    (written-back.1 ∙ ap Ok (sym (written_is_block g written-back.0 written-back.1) ∙ block-recovered b bytes good))
 
 has-tag : (b : List ℕ) → AreBytes b → HasTag (fields_in b)
 has-tag b bytes = omega (arith, bytes 4, bytes 5)
@@ -209,7 +221,8 @@ round_trip = record {
   written_is_read = written_is_read;
   read_is_written = read_is_written;
   read_iff_written = λ b bytes. (
-    (λ e. ((parsed b).fields, subst HasTag (sym (read b bytes e)) (has-tag b bytes), read_is_written b bytes e)),
-    (λ (f, tag, e). ap (λ (p : Parsed). p.answer) (rw (ap (λ (w : Written). w.block) e) at (written_is_read f tag (ap (λ (w : Written). w.answer) e)))),
+    (λ done. let read-back : _ = done-is-told (parsed b) done in
+        (read-back.0, subst HasTag (sym (comes_back.read b read-back.0 bytes read-back.1).0) (has-tag b bytes), read_is_written b read-back.0 bytes read-back.1)),
+    (λ (f, tag, e). done-where-told _ f (written_is_read f b tag e)),
   );
 }

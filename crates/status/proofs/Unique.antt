@@ -1,6 +1,8 @@
 -- The contract of each public operation allows one result.
 -- Assumes nothing.
 use mathlib.Core.Path.{refl}
+use denote.RattleType.{RattleType}
+use denote.Param.Laws.{Laws}
 use Rattle.prelude.specs.Unique.{OneResult}
 use Rattle.prelude.proofs.Promise.{one-result}
 use Rattle.status.proofs.write.Kinds as write-kinds
@@ -18,8 +20,8 @@ write-unique κs a r₁ r₂ w₁ w₂ p q = (one-result p q, refl)
 pub read-unique : OneResult 1 read-kinds.ps read-kinds.r read-reads.Learnt
 read-unique κs a r₁ r₂ w₁ w₂ p q = (one-result p q, refl)
 
-pub number-unique : OneResult 0 number-kinds.ps number-kinds.r number-reads.Learnt
-number-unique κs a r₁ r₂ w₁ w₂ p q = (one-result p q, refl)
+pub number-unique : (T : RattleType) (laws : Laws T) → OneResult 2 (number-kinds.ps T laws) (number-kinds.r T laws) (number-reads.Learnt T laws)
+number-unique T laws κs a r₁ r₂ w₁ w₂ p q = (one-result p q, refl)
 
-pub bad-field-number-unique : OneResult 0 bad-field-number-kinds.ps bad-field-number-kinds.r bad-field-number-reads.Learnt
-bad-field-number-unique κs a r₁ r₂ w₁ w₂ p q = (one-result p q, refl)
+pub bad-field-number-unique : (T : RattleType) (laws : Laws T) → OneResult 2 (bad-field-number-kinds.ps T laws) (bad-field-number-kinds.r T laws) (bad-field-number-reads.Learnt T laws)
+bad-field-number-unique T laws κs a r₁ r₂ w₁ w₂ p q = (one-result p q, refl)

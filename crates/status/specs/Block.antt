@@ -1,12 +1,9 @@
 -- The eight bytes of status data: the block that fields are written as, and the fields that a block is read as (manual 6).
-use Rattle.std.specs.Prelude.{ℕ, ◌+◌, ◌*◌, ◌/◌, ◌%◌, ◌^◌, Bool, false, List, [], ◌∷◌, eqb, length, get_or, replicate}
+use Rattle.std.specs.Prelude.{ℕ, ◌+◌, ◌*◌, ◌/◌, ◌%◌, ◌^◌, Bool, false, List, [], ◌∷◌, Result, Ok, Err, eqb, length, get_or, replicate}
 use Rattle.prelude.specs.Bits.{bits, is_set}
 use Rattle.prelude.specs.Choice.{when◌then◌else◌}
 use Rattle.status.specs.declared.Fields.{Fields}
-use Rattle.status.specs.declared.Written.{Written}
-use Rattle.status.specs.declared.Parsed.{Parsed}
-use Rattle.status.specs.declared.judge.Answer.{Answer}
-use Rattle.status.specs.declared.judge.Answer.TheVariants.{Done, NotAllowed}
+use Rattle.status.specs.declared.judge.Field.{Field}
 use Rattle.status.specs.declared.judge.Field.TheVariants.{BlockSize}
 use Rattle.status.specs.Judged.{packet_status, judged}
 
@@ -53,16 +50,23 @@ block f =
 abbrev pub block_size : ℕ
 block_size = 8
 
--- what comes back with an answer: zeros where a field is bad (manual 6.6)
-unfoldable pub if_done : {A : Type 0} → Answer → A → (zeros : A) → A
-if_done Done a zeros = a
-if_done (NotAllowed field) a zeros = zeros
+-- what a writer or a reader is told: what it asked for, or the first bad field (manual 6.6)
+unfoldable pub told : {A : Type 0} → Result Unit Field → A → Result A Field
+told (Ok _) a = Ok a
+told (Err field) a = Err field
+
+-- what comes back with the answer number: zeros where a field is bad (manual 6.6)
+unfoldable pub if_done : {A : Type 0} → Result Unit Field → A → (zeros : A) → A
+if_done (Ok _) a zeros = a
+if_done (Err field) a zeros = zeros
 
 -- a writer is given no packet status and no reserved bits of an MNG status, so that neither can be bad (manual 6.3, 6.6)
-unfoldable pub written : Fields → Written
-written f =
-    let answer : Answer = judged f packet_status 0 in
-    record { answer = answer; block = if_done answer (block f) (replicate block_size 0) }
+unfoldable pub written : Fields → Result (List ℕ) Field
+written f = told (judged f packet_status 0) (block f)
+
+-- the block that comes back to a writer (manual 6.6)
+unfoldable pub block_back : Fields → List ℕ
+block_back f = if_done (judged f packet_status 0) (block f) (replicate block_size 0)
 
 -- a field of two bytes, from place i on (manual 6.1)
 abbrev pub word_at : List ℕ → ℕ → ℕ
@@ -88,14 +92,20 @@ mng_reserved mng = mng / 2 ^ mng_reserved_at
 abbrev pub no_fields : Fields
 no_fields = record { length = 0; vlan = 0; decision_match = false; decision_index = 0; vlan_match = false; vlan_index = 0 }
 
--- the words of a block, judged as they stand (manual 6.6)
-unfoldable pub parsed_words : (length_word status vlan mng : ℕ) → Parsed
-parsed_words length_word status vlan mng =
-    let answer : Answer = judged (fields_of length_word vlan mng) status (mng_reserved mng) in
-    record { answer = answer; fields = if_done answer (fields_of length_word vlan mng) no_fields }
+-- the fields in a block (manual 6.1)
+abbrev pub fields_at : List ℕ → Fields
+fields_at b = fields_of (word_at b 0) (word_at b 4) (word_at b 6)
 
--- the size is judged before any word (manual 6.6)
-unfoldable pub parsed : List ℕ → Parsed
-parsed b =
-    when eqb (length b) block_size then parsed_words (word_at b 0) (word_at b 2) (word_at b 4) (word_at b 6) else
-    record { answer = NotAllowed BlockSize; fields = no_fields }
+-- the size is judged before any word, and the words as they stand (manual 6.6)
+unfoldable pub judged_block : List ℕ → Result Unit Field
+judged_block b =
+    when eqb (length b) block_size then judged (fields_at b) (word_at b 2) (mng_reserved (word_at b 6)) else
+    Err BlockSize
+
+-- the fields of a block, or the first that is bad (manual 6.6)
+unfoldable pub parsed : List ℕ → Result Fields Field
+parsed b = told (judged_block b) (fields_at b)
+
+-- the fields that come back to a reader (manual 6.6)
+unfoldable pub fields_back : List ℕ → Fields
+fields_back b = if_done (judged_block b) (fields_at b) no_fields

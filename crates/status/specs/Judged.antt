@@ -1,9 +1,7 @@
 -- Which field of status data is bad first, alike for fields to write and for a block to read; the size of a block is judged before, by the reader alone (manual 6.2 to 6.6).
-use Rattle.std.specs.Prelude.{ℕ, Bool, not, eqb, ltb}
+use Rattle.std.specs.Prelude.{ℕ, Bool, not, Result, Ok, Err, eqb, ltb}
 use Rattle.prelude.specs.Choice.{when◌then◌else◌, ◌or◌}
 use Rattle.status.specs.declared.Fields.{Fields}
-use Rattle.status.specs.declared.judge.Answer.{Answer}
-use Rattle.status.specs.declared.judge.Answer.TheVariants.{Done, NotAllowed}
 use Rattle.status.specs.declared.judge.Field.{Field}
 use Rattle.status.specs.declared.judge.Field.TheVariants.{BlockSize, Length, PacketStatus, MngReserved, DecisionIndex, VlanIndex}
 
@@ -17,14 +15,14 @@ field_number DecisionIndex = 5
 field_number VlanIndex = 6
 
 -- the answer number (manual 2.1, 2.5)
-abbrev pub number_of : Answer → ℕ
-number_of Done = 0
-number_of (NotAllowed field) = 15
+abbrev pub number_of : {A : Type 0} → Result A Field → ℕ
+number_of (Ok _) = 0
+number_of (Err field) = 15
 
 -- the number of the bad field that comes with the answer, 0 where none is bad (manual 6.6)
-abbrev pub bad_field_number : Answer → ℕ
-bad_field_number Done = 0
-bad_field_number (NotAllowed field) = field_number field
+abbrev pub bad_field_number : {A : Type 0} → Result A Field → ℕ
+bad_field_number (Ok _) = 0
+bad_field_number (Err field) = field_number field
 
 -- the largest length, the one packet status, and the largest indices (manual 6.2, 6.3, 6.5)
 abbrev pub max_length : ℕ
@@ -48,11 +46,11 @@ unfoldable pub bad_index : Bool → ℕ → ℕ → Bool
 bad_index matched index max = ltb (when matched then max else 0) index
 
 -- the first bad one of fields, a packet status and the reserved bits of an MNG status; any VLAN tag is good (manual 6.4, 6.6)
-unfoldable pub judged : Fields → (status reserved : ℕ) → Answer
+unfoldable pub judged : Fields → (status reserved : ℕ) → Result Unit Field
 judged f status reserved =
-    when bad_length f.length then NotAllowed Length else
-    when not (eqb status packet_status) then NotAllowed PacketStatus else
-    when ltb 0 reserved then NotAllowed MngReserved else
-    when bad_index f.decision_match f.decision_index max_decision_index then NotAllowed DecisionIndex else
-    when bad_index f.vlan_match f.vlan_index max_vlan_index then NotAllowed VlanIndex else
-    Done
+    when bad_length f.length then Err Length else
+    when not (eqb status packet_status) then Err PacketStatus else
+    when ltb 0 reserved then Err MngReserved else
+    when bad_index f.decision_match f.decision_index max_decision_index then Err DecisionIndex else
+    when bad_index f.vlan_match f.vlan_index max_vlan_index then Err VlanIndex else
+    Ok tt

@@ -1,11 +1,10 @@
 -- Exactly what the writer writes is read, and read as what was written; and every answer, by a second description of fields and block that uses none of the rules (manual 6).
-use Rattle.std.specs.Prelude.{ℕ, zero, suc, ◌+◌, ◌*◌, ◌/◌, ◌%◌, ◌^◌, ◌<◌, ◌≤◌, Bool, false, List, [], ◌∷◌, ◌↔◌, ◌≡◌, eqb, length, get_or, replicate}
+use Rattle.std.specs.Prelude.{ℕ, zero, suc, ◌+◌, ◌*◌, ◌/◌, ◌%◌, ◌^◌, ◌<◌, ◌≤◌, Bool, false, List, [], ◌∷◌, ◌↔◌, ◌≡◌, Ok, Err, IsOk, eqb, length, get_or, replicate}
 use Rattle.status.specs.declared.Fields.{Fields}
-use Rattle.status.specs.declared.judge.Answer.TheVariants.{Done, NotAllowed}
 use Rattle.status.specs.declared.judge.Field.{Field}
 use Rattle.status.specs.declared.judge.Field.TheVariants.{BlockSize, Length, PacketStatus, MngReserved, DecisionIndex, VlanIndex}
 use Rattle.status.specs.Judged.{number_of, bad_field_number}
-use Rattle.status.specs.Block.{written, parsed}
+use Rattle.status.specs.Block.{written, block_back, parsed, fields_back}
 
 -- a VLAN tag is any two bytes (manual 6.4)
 abbrev pub HasTag : Fields → Type 0
@@ -17,9 +16,9 @@ AreBytes b = (i : ℕ) → get_or b i 0 < 256
 
 -- what is written is read back, and nothing else is read (manual 6.6)
 pub record RoundTrip : Type 0 where
-  pub written_is_read : (f : Fields) → HasTag f → (written f).answer ≡ Done → parsed (written f).block ≡ record { answer = Done; fields = f }
-  pub read_is_written : (b : List ℕ) → AreBytes b → (parsed b).answer ≡ Done → written (parsed b).fields ≡ record { answer = Done; block = b }
-  pub read_iff_written : (b : List ℕ) → AreBytes b → ((parsed b).answer ≡ Done) ↔ ((f : Fields) × HasTag f × written f ≡ record { answer = Done; block = b })
+  pub written_is_read : (f : Fields) (b : List ℕ) → HasTag f → written f ≡ Ok b → parsed b ≡ Ok f
+  pub read_is_written : (b : List ℕ) (f : Fields) → AreBytes b → parsed b ≡ Ok f → written f ≡ Ok b
+  pub read_iff_written : (b : List ℕ) → AreBytes b → IsOk (parsed b) ↔ ((f : Fields) × HasTag f × written f ≡ Ok b)
 
 -- the fields of a block, byte for byte (manual 6.1)
 abbrev pub fields_in : List ℕ → Fields
@@ -35,11 +34,12 @@ fields_in b =
 
 -- what comes back: the fields that the bytes hold, and zeros with every refusal (manual 6.6)
 pub record ComesBack : Type 0 where
-  pub read : (b : List ℕ) → AreBytes b → (parsed b).answer ≡ Done → (parsed b).fields ≡ fields_in b
+  pub read : (b : List ℕ) (f : Fields) → AreBytes b → parsed b ≡ Ok f → (f ≡ fields_in b) × (fields_back b ≡ f)
+  pub written_back : (f : Fields) (b : List ℕ) → written f ≡ Ok b → block_back f ≡ b
   pub not_read :
-      (b : List ℕ) (field : Field) → (parsed b).answer ≡ NotAllowed field
-      → (parsed b).fields ≡ record { length = 0; vlan = 0; decision_match = false; decision_index = 0; vlan_match = false; vlan_index = 0 }
-  pub not_written : (f : Fields) (field : Field) → (written f).answer ≡ NotAllowed field → (written f).block ≡ replicate 8 0
+      (b : List ℕ) (field : Field) → parsed b ≡ Err field
+      → fields_back b ≡ record { length = 0; vlan = 0; decision_match = false; decision_index = 0; vlan_match = false; vlan_index = 0 }
+  pub not_written : (f : Fields) (field : Field) → written f ≡ Err field → block_back f ≡ replicate 8 0
 
 -- an index names one of eight filters, and is 0 where none matched (manual 6.5)
 abbrev pub GoodIndex : Bool → ℕ → Type 0
@@ -78,5 +78,5 @@ TellsFirstBad Good answer (suc place) = (answer ≡ 15) × (place < length in_or
 
 -- whatever is written or read (manual 6.6)
 pub record FirstBadTold : Type 0 where
-  pub writing : (f : Fields) → TellsFirstBad (GoodToWrite f) (number_of (written f).answer) (bad_field_number (written f).answer)
-  pub reading : (b : List ℕ) → AreBytes b → TellsFirstBad (GoodToRead b) (number_of (parsed b).answer) (bad_field_number (parsed b).answer)
+  pub writing : (f : Fields) → TellsFirstBad (GoodToWrite f) (number_of (written f)) (bad_field_number (written f))
+  pub reading : (b : List ℕ) → AreBytes b → TellsFirstBad (GoodToRead b) (number_of (parsed b)) (bad_field_number (parsed b))

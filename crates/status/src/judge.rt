@@ -4,15 +4,6 @@ ghost use Rattle.status.specs.Judged.{field_number, number_of, bad_field_number,
 
 use crate::Fields;
 
-// What a writer or a reader is answered.
-#[derive(Clone, Copy)]
-pub enum Answer {
-    // 0: the block is written or read.
-    Done,
-    // 15, with the first field that is bad.
-    NotAllowed(Field),
-}
-
 // The fields that can be bad, in the order in which they are judged.
 #[derive(Clone, Copy)]
 pub enum Field {
@@ -30,6 +21,21 @@ pub enum Field {
     VlanIndex,
 }
 
+impl From<Field> for u32 {
+    ghost from_gives = { λ field number. number ≡ field_number field };
+
+    fn from(field: Field) -> u32 {
+        match field {
+            Field::BlockSize => 1,
+            Field::Length => 2,
+            Field::PacketStatus => 3,
+            Field::MngReserved => 4,
+            Field::DecisionIndex => 5,
+            Field::VlanIndex => 6,
+        }
+    }
+}
+
 const MAX_LENGTH: u16 = 1536;
 
 pub(crate) const PACKET_STATUS: u16 = 0x0001;
@@ -40,29 +46,29 @@ const MAX_VLAN_INDEX: u8 = 7;
 
 // Names the first that is bad of fields, a packet status and the reserved bits of an MNG status.
 #[tactic(auto, using(prelude::proofs::Tests::tests), unfolding(crate::specs::Judged::judged))]
-pub(crate) fn judge(fields: Fields, status: u16, reserved: u16) -> Answer
+pub(crate) fn judge(fields: Fields, status: u16, reserved: u16) -> Result<(), Field>
     ensures { result ≡ judged fields status reserved }
 {
     if is_length_bad(fields.length) {
-        return Answer::NotAllowed(Field::Length);
+        return Err(Field::Length);
     }
     if status != PACKET_STATUS {
-        return Answer::NotAllowed(Field::PacketStatus);
+        return Err(Field::PacketStatus);
     }
     if 0 < reserved {
-        return Answer::NotAllowed(Field::MngReserved);
+        return Err(Field::MngReserved);
     }
     if is_index_bad(
         fields.decision_match,
         fields.decision_index,
         MAX_DECISION_INDEX,
     ) {
-        return Answer::NotAllowed(Field::DecisionIndex);
+        return Err(Field::DecisionIndex);
     }
     if is_index_bad(fields.vlan_match, fields.vlan_index, MAX_VLAN_INDEX) {
-        return Answer::NotAllowed(Field::VlanIndex);
+        return Err(Field::VlanIndex);
     }
-    Answer::Done
+    Ok(())
 }
 
 // Whether a length word is bad. With a reserved bit, 15 or 14, it is above the largest.
@@ -70,10 +76,7 @@ pub(crate) fn judge(fields: Fields, status: u16, reserved: u16) -> Answer
 fn is_length_bad(length: u16) -> bool
     ensures { result ≡ bad_length length }
 {
-    if length < 1 {
-        return true;
-    }
-    MAX_LENGTH < length
+    length < 1 || MAX_LENGTH < length
 }
 
 // Whether an index is above the largest that it may be, which is 0 without its match.
@@ -87,35 +90,22 @@ fn is_index_bad(matched: bool, index: u8, max: u8) -> bool
     0 < index
 }
 
-// The answer number.
-pub fn number(answer: Answer) -> u32
-    ensures { result ≡ number_of answer }
+// The answer number of what `write` or `read` returned.
+pub fn number<T>(answer: &Result<T, Field>) -> u32
+    ensures { result ≡ number_of answer.now }
 {
     match answer {
-        Answer::Done => 0,
-        Answer::NotAllowed(_) => 15,
+        Ok(_) => 0,
+        Err(_) => 15,
     }
 }
 
 // The number of the field that is bad, 0 where none is.
-pub fn bad_field_number(answer: Answer) -> u32
-    ensures { result ≡ bad_field_number answer }
+pub fn bad_field_number<T>(answer: &Result<T, Field>) -> u32
+    ensures { result ≡ bad_field_number answer.now }
 {
     match answer {
-        Answer::Done => 0,
-        Answer::NotAllowed(field) => field_number(field),
-    }
-}
-
-fn field_number(field: Field) -> u32
-    ensures { result ≡ field_number field }
-{
-    match field {
-        Field::BlockSize => 1,
-        Field::Length => 2,
-        Field::PacketStatus => 3,
-        Field::MngReserved => 4,
-        Field::DecisionIndex => 5,
-        Field::VlanIndex => 6,
+        Ok(_) => 0,
+        Err(field) => u32::from(*field),
     }
 }

@@ -4,15 +4,16 @@
 
 mod judge;
 
-ghost use Rattle.std.specs.Prelude.{◌≡◌, ◌+◌, ◌*◌, ◌≤◌};
-ghost use Rattle.status.specs.Block.{match_bit, mng_status, written, fields_of, mng_reserved, parsed_words, parsed};
+ghost use Rattle.std.specs.Prelude.{◌≡◌, ◌≤◌};
+ghost use Rattle.status.specs.Block.{match_bit, mng_status, written, fields_of, mng_reserved, parsed};
 
-pub use judge::{Answer, Field, bad_field_number, number};
+pub use judge::{Field, bad_field_number, number};
 use judge::{PACKET_STATUS, judge};
 
 // What a block holds. The length counts the packet's four check bytes.
+// A match stands beside its index, and no Option: C sees this struct, and an index without its match is judged.
 #[repr(C)]
-#[derive(Clone, Copy)]
+#[derive(Clone, Copy, Default)]
 pub struct Fields {
     pub length: u16,
     pub vlan: u16,
@@ -20,20 +21,6 @@ pub struct Fields {
     pub decision_index: u8,
     pub vlan_match: bool,
     pub vlan_index: u8,
-}
-
-// The block, of zeros where a field is bad.
-#[derive(Clone, Copy)]
-pub struct Written {
-    pub answer: Answer,
-    pub block: [u8; BLOCK_SIZE],
-}
-
-// The fields, all zero where one is bad.
-#[derive(Clone, Copy)]
-pub struct Parsed {
-    pub answer: Answer,
-    pub fields: Fields,
 }
 
 pub const BLOCK_SIZE: usize = 8;
@@ -47,74 +34,34 @@ const DECISION_INDEX: u16 = 0x10;
 
 const VLAN_MATCH: u16 = 0x8;
 
-const NO_FIELDS: Fields = Fields {
-    length: 0,
-    vlan: 0,
-    decision_match: false,
-    decision_index: 0,
-    vlan_match: false,
-    vlan_index: 0,
-};
-
-// The block for these fields.
-#[tactic(auto, using(prelude::proofs::Tests::tests), unfolding(crate::specs::Block::written, crate::specs::Block::if_done, crate::specs::Block::block))]
-pub fn write(fields: Fields) -> Written
+// The block for these fields, or the first that is bad.
+#[tactic(auto, using(prelude::proofs::Tests::tests), unfolding(crate::specs::Block::written, crate::specs::Block::told, crate::specs::Block::block))]
+pub fn write(fields: Fields) -> Result<[u8; BLOCK_SIZE], Field>
     ensures { result ≡ written fields }
 {
-    let answer = judge(fields, PACKET_STATUS, 0);
-    let Answer::Done = answer else {
-        return Written {
-            answer,
-            block: [0; BLOCK_SIZE],
-        };
-    };
-    let mng = mng_status(fields);
-    Written {
-        answer,
-        block: [
-            (fields.length % 256) as u8,
-            (fields.length / 256) as u8,
-            (PACKET_STATUS % 256) as u8,
-            (PACKET_STATUS / 256) as u8,
-            (fields.vlan % 256) as u8,
-            (fields.vlan / 256) as u8,
-            (mng % 256) as u8,
-            (mng / 256) as u8,
-        ],
-    }
+    judge(fields, PACKET_STATUS, 0)?;
+    let [l0, l1] = fields.length.to_le_bytes();
+    let [s0, s1] = PACKET_STATUS.to_le_bytes();
+    let [v0, v1] = fields.vlan.to_le_bytes();
+    let [m0, m1] = mng_status(fields).to_le_bytes();
+    Ok([l0, l1, s0, s1, v0, v1, m0, m1])
 }
 
-// The fields of a block that write could have written.
-#[tactic(auto, using(prelude::proofs::Tests::tests), unfolding(crate::specs::Block::parsed))]
-pub fn read(block: &[u8]) -> Parsed
+// The fields of a block that write could have written, or the first that is bad.
+#[tactic(auto, using(prelude::proofs::Tests::tests), unfolding(crate::specs::Block::parsed, crate::specs::Block::judged_block, crate::specs::Block::told))]
+pub fn read(block: &[u8]) -> Result<Fields, Field>
     ensures { result ≡ parsed block.now }
 {
-    if block.len() != BLOCK_SIZE {
-        return Parsed {
-            answer: Answer::NotAllowed(Field::BlockSize),
-            fields: NO_FIELDS,
-        };
-    }
-    let length = word(block[0], block[1]);
-    let status = word(block[2], block[3]);
-    let vlan = word(block[4], block[5]);
-    let mng = word(block[6], block[7]);
-    read_words(length, status, vlan, mng)
-}
-
-#[tactic(auto, using(prelude::proofs::Tests::tests), unfolding(crate::specs::Block::parsed_words, crate::specs::Block::if_done))]
-fn read_words(length: u16, status: u16, vlan: u16, mng: u16) -> Parsed
-    ensures { result ≡ parsed_words length status vlan mng }
-{
-    let fields = fields_of(length, vlan, mng);
-    let answer = judge(fields, status, mng_reserved(mng));
-    let Answer::Done = answer else {
-        return Parsed {
-            answer,
-            fields: NO_FIELDS,
-        };
+    let &[l0, l1, s0, s1, v0, v1, m0, m1] = block else {
+        return Err(Field::BlockSize);
     };
-    Parsed { answer, fields }
+    let length = u16::from_le_bytes([l0, l1]);
+    let status = u16::from_le_bytes([s0, s1]);
+    let vlan = u16::from_le_bytes([v0, v1]);
+    let mng = u16::from_le_bytes([m0, m1]);
+    let fields = fields_of(length, vlan, mng);
+    judge(fields, status, mng_reserved(mng))?;
+    Ok(fields)
 }
 
 fn fields_of(length: u16, vlan: u16, mng: u16) -> Fields
@@ -141,9 +88,9 @@ fn mng_status(fields: Fields) -> u16
     ensures { result ≡ mng_status fields }
 {
     match_bit(fields.decision_match, DECISION_MATCH)
-        + fields.decision_index as u16 * DECISION_INDEX
+        + u16::from(fields.decision_index) * DECISION_INDEX
         + match_bit(fields.vlan_match, VLAN_MATCH)
-        + fields.vlan_index as u16
+        + u16::from(fields.vlan_index)
 }
 
 #[tactic(auto, using(prelude::proofs::Tests::tests))]
@@ -151,10 +98,4 @@ fn match_bit(matched: bool, weight: u16) -> u16
     ensures { (result ≡ match_bit matched weight) × (result ≤ weight) }
 {
     if matched { weight } else { 0 }
-}
-
-fn word(low: u8, high: u8) -> u16
-    ensures { result ≡ low + 256 * high }
-{
-    low as u16 + 256 * high as u16
 }

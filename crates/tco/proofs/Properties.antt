@@ -8,13 +8,14 @@ use lib.Dec.{ltb}
 use lib.ListN.{length}
 use denote.Ref.{Bor}
 use borrow.Author.Tests.{ltb-false}
+use Rattle.std.specs.Prelude.{Option, Some, None}
 use Rattle.prelude.specs.Choice.{when◌then◌else◌}
 use Rattle.prelude.specs.Parts.{Slice, part_of}
 use Rattle.prelude.proofs.Lists.{length_part}
 use Rattle.prelude.proofs.Tests.{if-cases}
 use Rattle.address.specs.declared.Address.TheVariants.{Mac, Ipv4}
 use Rattle.address.specs.declared.Source.{Source}
-use Rattle.address.specs.declared.Source.TheVariants.{Nowhere, Settings, Flash}
+use Rattle.address.specs.declared.Source.TheVariants.{Settings, Flash}
 use Rattle.address.specs.Address.{source_of, shown_from, in_force}
 use Rattle.packet.specs.Store.{max_packet, shown}
 use Rattle.settings.specs.Layout.{mac_at, ipv4_at, mac_size, ipv4_size}
@@ -34,17 +35,17 @@ packet store n =
     P s = part_of 0 (length s.bytes) store ≡ s
 
 module _ (settings flash : Bor (List ℕ)) where
-  mac : (source : Source) → part_at (part_from source mac_at 0 mac_size) settings flash ≡ shown_from source Mac settings flash
+  mac : (source : Option Source) → part_at (part_from source mac_at 0 mac_size) settings flash ≡ shown_from source Mac settings flash
   unfolding when◌then◌else◌ part_from
-  mac Nowhere = refl
-  mac Settings = refl
-  mac Flash = refl
+  mac None = refl
+  mac (Some Settings) = refl
+  mac (Some Flash) = refl
 
-  ipv4 : (source : Source) → part_at (part_from source ipv4_at mac_size ipv4_size) settings flash ≡ shown_from source Ipv4 settings flash
+  ipv4 : (source : Option Source) → part_at (part_from source ipv4_at mac_size ipv4_size) settings flash ≡ shown_from source Ipv4 settings flash
   unfolding when◌then◌else◌ part_from
-  ipv4 Nowhere = refl
-  ipv4 Settings = refl
-  ipv4 Flash = refl
+  ipv4 None = refl
+  ipv4 (Some Settings) = refl
+  ipv4 (Some Flash) = refl
 
 pub every-part : EveryPart
 unfolding in_force

@@ -5,8 +5,8 @@ use mathlib.Core.Path.{ap}
 use lib.ListN.{drop}
 use Rattle.prelude.specs.After.{After}
 use Rattle.history.specs.Calls.{packets_of}
-use Rattle.tco.specs.declared.Replied.{Replied}
 use Rattle.tco.specs.Step.{EveryStep}
+use Rattle.tco.specs.Reply.{Replied}
 
 pub every-step : EveryStep
 every-step kept store_lent settings_lent t state reply store settings e = record {

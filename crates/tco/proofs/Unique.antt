@@ -7,7 +7,6 @@ use Rattle.prelude.proofs.Promise.{one-result}
 use Rattle.prelude.specs.After.{After}
 use Rattle.printout.specs.Printout.{Written}
 use Rattle.settings.specs.Enable.{Answered}
-use Rattle.tco.specs.declared.Replied.{Replied}
 use Rattle.tco.specs.Unique.{OneInPlace}
 use Rattle.tco.proofs.tco_fresh_state.Kinds as fresh-state-kinds
 use Rattle.tco.proofs.tco_fresh_state.Reads as fresh-state-reads
@@ -27,6 +26,7 @@ use Rattle.tco.proofs.tco_set_link.Kinds as set-link-kinds
 use Rattle.tco.proofs.tco_set_link.Reads as set-link-reads
 use Rattle.tco.proofs.tco_print_account.Kinds as print-account-kinds
 use Rattle.tco.proofs.tco_print_account.Reads as print-account-reads
+use Rattle.tco.specs.Reply.{Replied}
 
 pub fresh-state-unique : OneResult 0 fresh-state-kinds.ps fresh-state-kinds.r fresh-state-reads.Learnt
 fresh-state-unique κs a r₁ r₂ w₁ w₂ p q = (one-result p q, refl)

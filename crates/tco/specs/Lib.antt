@@ -2,6 +2,7 @@ pub mod Link
 pub mod Part
 pub mod Properties
 pub mod Reply
+pub mod Settings
 pub mod Status
 pub mod Step
 pub mod Unique

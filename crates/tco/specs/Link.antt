@@ -3,14 +3,8 @@ use Rattle.std.specs.Prelude.{ℕ, Bool, eqb}
 use Rattle.prelude.specs.Choice.{when◌then◌else◌}
 use Rattle.setlink.specs.declared.Decision.{Decision}
 use Rattle.setlink.specs.declared.Media.TheVariants.{Copper, Fibre}
+use Rattle.setlink.specs.Word.{copper, fibre}
 use Rattle.setlink.specs.Decide.{failed, invalid_parameter, decided}
-
--- how this interface numbers the media (manual 7.2)
-abbrev pub copper : ℕ
-copper = 0
-
-abbrev pub fibre : ℕ
-fibre = 1
 
 -- another number is no medium: an invalid parameter before any check, and the word in force stays (manual 7.3, 7.4)
 unfoldable pub decided_over : ℕ → ℕ → Bool → ℕ → Decision

@@ -7,7 +7,6 @@ use Rattle.address.specs.declared.Address.TheVariants.{Mac, Ipv4}
 use Rattle.address.specs.Address.{in_force}
 use Rattle.packet.specs.Store.{shown}
 use Rattle.status.specs.declared.Fields.{Fields}
-use Rattle.status.specs.Block.{written, parsed}
 use Rattle.status.specs.Properties.{AreBytes, GoodToWrite, GoodToRead, TellsFirstBad}
 use Rattle.tco.specs.declared.Part.{Part}
 use Rattle.tco.specs.Part.{shown_length, in_flash, mac_in_force, ipv4_in_force}
@@ -25,5 +24,5 @@ pub record EveryPart : Type 0 where
 
 -- of status data, whatever is written or read (manual 6.6)
 pub record EveryStatus : Type 0 where
-  pub writing : (f : Fields) → TellsFirstBad (GoodToWrite f) (written_in_numbers (written f)).answer (written_in_numbers (written f)).field
-  pub reading : (b : List ℕ) → AreBytes b → TellsFirstBad (GoodToRead b) (read_in_numbers (parsed b)).answer (read_in_numbers (parsed b)).field
+  pub writing : (f : Fields) → TellsFirstBad (GoodToWrite f) (written_in_numbers f).answer (written_in_numbers f).field
+  pub reading : (b : List ℕ) → AreBytes b → TellsFirstBad (GoodToRead b) (read_in_numbers b).answer (read_in_numbers b).field

@@ -7,9 +7,13 @@ use Rattle.outcome.specs.declared.Reply.{Reply}
 use Rattle.outcome.specs.Outcome.{reply_to}
 use Rattle.translator.specs.declared.Transacted.{Transacted}
 use Rattle.translator.specs.Transact.{transacted}
-use Rattle.tco.specs.declared.Replied.{Replied}
 
 -- a state, and the reply that came with it (manual 8.10)
+pub record Replied : Type 0 where
+  pub state : State
+  pub reply : Reply
+
+-- both of these (manual 8.10)
 abbrev pub replied : State → Reply → Replied
 replied state reply = record { state = state; reply = reply }
 

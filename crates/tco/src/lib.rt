@@ -8,20 +8,21 @@ ghost use Rattle.printout.specs.Printout.{written as printout_written, printed};
 ghost use Rattle.record.specs.Transaction.{transaction};
 ghost use Rattle.settings.specs.Enable.{answered, freshened};
 ghost use Rattle.state.specs.State.{made};
-ghost use Rattle.status.specs.Block.{written, parsed};
 ghost use Rattle.tco.specs.Reply.{InPlace};
 ghost use Rattle.tco.specs.Part.{shown_length, part_from, mac_in_force, ipv4_in_force};
 ghost use Rattle.tco.specs.Link.{decided_over};
+ghost use Rattle.tco.specs.Settings.{freshened_in_numbers};
 ghost use Rattle.tco.specs.Status.{written_in_numbers, read_in_numbers};
 
 use address::{Address, Source};
 use outcome::Reply;
-use setlink::{Decision, Media};
+use record::Transaction;
+use setlink::{Decision, FAILED, INVALID_PARAMETER, Media};
 use state::{Account, Made, State};
 use status::{BLOCK_SIZE, Fields};
 
 // A part of the settings or of Flash: its source, where it starts and its length. All is zero where
-// there is none.
+// there is none. A number for the source and no Option: C sees this struct.
 #[repr(C)]
 #[derive(Clone, Copy)]
 pub struct Part {
@@ -30,8 +31,9 @@ pub struct Part {
     pub length: u32,
 }
 
-// The block that status data is written as. `field` is the number of the first bad field, 0 where
-// none is.
+// The block that status data is written as, of zeros where a field is bad. `field` is the number of
+// the first bad field, 0 where none is. Numbers and no Result, and no type parameter for this and the
+// next: C sees both structs.
 #[repr(C)]
 #[derive(Clone, Copy)]
 pub struct StatusWritten {
@@ -40,7 +42,7 @@ pub struct StatusWritten {
     pub block: [u8; BLOCK_SIZE],
 }
 
-// The fields that a status block is read as, with `field` as above.
+// The fields that a status block is read as, all zero where one is bad, with `field` as above.
 #[repr(C)]
 #[derive(Clone, Copy)]
 pub struct StatusRead {
@@ -49,11 +51,12 @@ pub struct StatusRead {
     pub fields: Fields,
 }
 
-// A state after a transaction, and the reply.
+// Where an address starts in the settings and in Flash, and its size.
 #[derive(Clone, Copy)]
-struct Replied {
-    state: State,
-    reply: Reply,
+struct Place {
+    in_settings: u32,
+    in_flash: u32,
+    size: u32,
 }
 
 // Sources of a part.
@@ -68,14 +71,18 @@ const MAC_SIZE: u32 = (settings::IPV4 - settings::MAC) as u32;
 
 const IPV4_SIZE: u32 = (settings::UNREAD - settings::IPV4) as u32;
 
-// Media.
-const COPPER: u32 = 0;
+// Where the addresses stand.
+const MAC: Place = Place {
+    in_settings: settings::MAC as u32,
+    in_flash: 0,
+    size: MAC_SIZE,
+};
 
-const FIBRE: u32 = 1;
-
-const FAILED: u16 = 0x0001;
-
-const INVALID_PARAMETER: u16 = 0x0002;
+const IPV4: Place = Place {
+    in_settings: settings::IPV4 as u32,
+    in_flash: MAC_SIZE,
+    size: IPV4_SIZE,
+};
 
 // A fresh state for fragments of at most `maximum` data bytes.
 #[unsafe(no_mangle)]
@@ -85,12 +92,12 @@ pub extern "C" fn tco_fresh_state(maximum: u32) -> Made
     state::fresh(maximum)
 }
 
-// Writes fresh settings.
+// Writes fresh settings. Answers a number, which is what C can be told.
 #[unsafe(no_mangle)]
 pub extern "C" fn tco_fresh_settings(settings: &mut [u8]) -> u32
-    ensures { answered result settings.new ≡ freshened settings.old }
+    ensures { answered result settings.new ≡ freshened_in_numbers (freshened settings.old) }
 {
-    settings::fresh(settings)
+    settings::fresh_number(settings::fresh(settings))
 }
 
 // Does one transaction on the state where it lies.
@@ -105,29 +112,14 @@ pub extern "C" fn tco_transact(
 ) -> Reply
     ensures { InPlace state.old store.old settings.old (transaction command bytes.now link_up) state.new result store.new settings.new }
 {
-    let replied = transact(*state, store, settings, command, bytes, link_up);
-    *state = replied.state;
-    replied.reply
-}
-
-// The same on a state by value.
-fn transact(
-    state: State,
-    store: &mut [u8],
-    settings: &mut [u8],
-    command: u8,
-    bytes: &[u8],
-    link_up: bool,
-) -> Replied
-    ensures { InPlace state store.old settings.old (transaction command bytes.now link_up) result.state result.reply store.new settings.new }
-{
-    let transacted = translator::transact(state, store, settings, command, bytes, link_up);
-    let after = transacted.state;
-    let outcome = transacted.outcome;
-    Replied {
-        state: after,
-        reply: outcome::reply_to(outcome),
-    }
+    let transaction = Transaction {
+        command,
+        bytes,
+        link_up,
+    };
+    let transacted = translator::transact(*state, store, settings, transaction);
+    *state = transacted.state;
+    Reply::from(transacted.outcome)
 }
 
 // How many bytes to show, from the store's first on, where `asked` are asked for: that many, or 0
@@ -139,19 +131,13 @@ pub extern "C" fn tco_shown(store: &[u8], asked: usize) -> usize
     packet::shown(store, asked as u64).len()
 }
 
-// The MAC address in force, as a part of the settings or of the Flash block.
+// The MAC address in force, as a part of the settings or of the Flash block. Two names for this and the
+// next, and no parameter: C calls both.
 #[unsafe(no_mangle)]
 pub extern "C" fn tco_mac_in_force(settings: &[u8], flash: &[u8]) -> Part
     ensures { result ≡ mac_in_force settings.now flash.now }
 {
-    in_force(
-        Address::Mac,
-        settings,
-        flash,
-        settings::MAC as u32,
-        0,
-        MAC_SIZE,
-    )
+    in_force(Address::Mac, MAC, settings, flash)
 }
 
 // The IPv4 address in force, as a part of the settings or of the Flash block.
@@ -159,43 +145,29 @@ pub extern "C" fn tco_mac_in_force(settings: &[u8], flash: &[u8]) -> Part
 pub extern "C" fn tco_ipv4_in_force(settings: &[u8], flash: &[u8]) -> Part
     ensures { result ≡ ipv4_in_force settings.now flash.now }
 {
-    in_force(
-        Address::Ipv4,
-        settings,
-        flash,
-        settings::IPV4 as u32,
-        MAC_SIZE,
-        IPV4_SIZE,
-    )
+    in_force(Address::Ipv4, IPV4, settings, flash)
 }
 
-// An address in force of `size` bytes, which start at `in_settings` or at `in_flash` in its source.
+// An address in force, by its place in the source.
 #[tactic(auto, unfolding(crate::specs::Part::part_from))]
-fn in_force(
-    address: Address,
-    settings: &[u8],
-    flash: &[u8],
-    in_settings: u32,
-    in_flash: u32,
-    size: u32,
-) -> Part
-    ensures { result ≡ part_from (source_of address settings.now flash.now) in_settings in_flash size }
+fn in_force(address: Address, place: Place, settings: &[u8], flash: &[u8]) -> Part
+    ensures { result ≡ part_from (source_of address settings.now flash.now) place.in_settings place.in_flash place.size }
 {
     match address::source_of(address, settings, flash) {
-        Source::Nowhere => Part {
+        None => Part {
             source: NOWHERE,
             start: 0,
             length: 0,
         },
-        Source::Settings => Part {
+        Some(Source::Settings) => Part {
             source: SETTINGS,
-            start: in_settings,
-            length: size,
+            start: place.in_settings,
+            length: place.size,
         },
-        Source::Flash => Part {
+        Some(Source::Flash) => Part {
             source: FLASH,
-            start: in_flash,
-            length: size,
+            start: place.in_flash,
+            length: place.size,
         },
     }
 }
@@ -203,50 +175,44 @@ fn in_force(
 // The status block for these fields.
 #[unsafe(no_mangle)]
 pub extern "C" fn tco_write_status(fields: Fields) -> StatusWritten
-    ensures { result ≡ written_in_numbers (written fields) }
+    ensures { result ≡ written_in_numbers fields }
 {
     let written = status::write(fields);
-    let answer = written.answer;
-    let block = written.block;
     StatusWritten {
-        answer: status::number(answer),
-        field: status::bad_field_number(answer),
-        block,
+        answer: status::number(&written),
+        field: status::bad_field_number(&written),
+        block: written.unwrap_or_default(),
     }
 }
 
 // The fields of a status block.
 #[unsafe(no_mangle)]
 pub extern "C" fn tco_read_status(block: &[u8]) -> StatusRead
-    ensures { result ≡ read_in_numbers (parsed block.now) }
+    ensures { result ≡ read_in_numbers block.now }
 {
-    let parsed = status::read(block);
-    let answer = parsed.answer;
-    let fields = parsed.fields;
+    let read = status::read(block);
     StatusRead {
-        answer: status::number(answer),
-        field: status::bad_field_number(answer),
-        fields,
+        answer: status::number(&read),
+        field: status::bad_field_number(&read),
+        fields: read.unwrap_or_default(),
     }
 }
 
-// Judges a Set Link word over a medium, COPPER or FIBRE; over any other it is an invalid parameter.
-#[tactic(auto, using(prelude::proofs::Tests::tests), unfolding(crate::specs::Link::decided_over))]
+// Judges a Set Link word over a medium by its number, which is what C can say; over any other number
+// it is an invalid parameter.
+#[tactic(auto, using(prelude::proofs::Tests::tests), unfolding(crate::specs::Link::decided_over, setlink::specs::Word::media_of))]
 #[unsafe(no_mangle)]
 pub extern "C" fn tco_set_link(in_force: u32, word: u32, host_present: bool, media: u32) -> Decision
     ensures { result ≡ decided_over in_force word host_present media }
 {
-    if media == COPPER {
-        return setlink::decide(in_force, word, host_present, Media::Copper);
-    }
-    if media == FIBRE {
-        return setlink::decide(in_force, word, host_present, Media::Fibre);
-    }
-    Decision {
-        response: FAILED,
-        reason: INVALID_PARAMETER,
-        in_force,
-    }
+    let Ok(media) = Media::try_from(media) else {
+        return Decision {
+            response: FAILED,
+            reason: INVALID_PARAMETER,
+            in_force,
+        };
+    };
+    setlink::decide(in_force, word, host_present, media)
 }
 
 // Prints the account at the start of `out` and answers how many bytes that took.

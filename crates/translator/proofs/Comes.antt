@@ -6,6 +6,7 @@ use mathlib.Core.List.{List}
 use mathlib.Core.Logic.{◌⊎◌, inl, inr}
 use mathlib.Core.Path.{◌≡◌, refl, sym, ap, subst, ◌∙◌}
 use native.Mathlib.Omega.{arith}
+use Rattle.std.specs.Prelude.{Option, None, Some}
 use lib.Dec.{eqb, leb, ltb}
 use lib.ListN.{length}
 use borrow.Author.Tests.{ltb-true, ltb-false}
@@ -13,17 +14,18 @@ use Rattle.prelude.specs.After.{After, after}
 use Rattle.prelude.specs.Choice.{when◌then◌else◌}
 use Rattle.prelude.proofs.Tests.{if-cases, if-true, if-false}
 use Rattle.packet.specs.Store.{max_packet, filled}
-use Rattle.settings.specs.declared.enable.Enabled.{Enabled}
-use Rattle.settings.specs.declared.enable.Enabled.TheVariants as enabled
+use Rattle.std.specs.Prelude.{Ok, Err}
 use Rattle.settings.specs.declared.enable.Refusal.{Refusal}
 use Rattle.settings.specs.declared.enable.Refusal.TheVariants as refusal
-use Rattle.settings.specs.Enable.{refusal_number, Answered, short_form_answered, long_form_answered, receive_enabled}
+use Rattle.settings.specs.Enable.{refusal_number, Answer, Answered, short_form_answered, long_form_answered, receive_enabled}
 use Rattle.settings.specs.Enable as settings-enable
 use Rattle.settings.specs.Layout as settings_layout
 use Rattle.settings.specs.Properties.{KeepsTheRest}
 use Rattle.settings.proofs.Properties.{every-enable}
 use Rattle.settings.proofs.Sound.{short-is-not-sound}
-use Rattle.state.specs.Account.{row_count, no_row, superseded, flushed}
+use Rattle.state.specs.declared.row.Row.{Row}
+use Rattle.state.specs.declared.row.Row.TheVariants as row
+use Rattle.state.specs.Account.{row_count, no_row, superseded, flushed, place_of, row_number}
 use Rattle.outcome.specs.declared.Cause.{Cause}
 use Rattle.outcome.specs.declared.Cause.TheVariants as cause
 use Rattle.outcome.specs.declared.Outcome.{Outcome}
@@ -31,7 +33,7 @@ use Rattle.outcome.specs.declared.Outcome.TheVariants as outcome
 use Rattle.outcome.specs.Outcome.{number_of, is_counted}
 use Rattle.translator.specs.declared.command.Class.{Class}
 use Rattle.translator.specs.declared.command.Class.TheVariants as class
-use Rattle.translator.specs.declared.fragment.Sequence.{Sequence}
+use Rattle.translator.specs.declared.fragment.Joins as joins
 use Rattle.translator.specs.declared.judged.Judged.{Judged}
 use Rattle.translator.specs.Command.{has_both_flags}
 use Rattle.translator.specs.Counting.{left_open}
@@ -79,6 +81,16 @@ store_after outcome.NoRoom at bytes store = store
 store_after outcome.NotSound at bytes store = store
 store_after outcome.Full at bytes store = store
 
+-- the number of the row in which the packet that is open ends, where one is
+abbrev pub ends_at : ℕ → ℕ → ℕ
+ends_at place f = when ltb 0 f then place else no_row
+
+pub ends-in-at : (fate : Row) (f : ℕ) → row_number (ends_in fate f) ≡ ends_at (place_of fate) f
+unfolding ends_in
+ends-in-at fate f =
+    if-cases (λ (ends : Option Row). row_number ends ≡ ends_at (place_of fate) f) (ltb 0 f) (Some fate) None
+    (λ e. sym (if-true _ _ _ e)) (λ n. sym (if-false _ _ _ n))
+
 -- the settings that an answer leaves
 pub record Enabling (answer : ℕ) (before after : List ℕ) : Type 0 where
   pub the_rest : KeepsTheRest before after
@@ -88,12 +100,12 @@ pub record Enabling (answer : ℕ) (before after : List ℕ) : Type 0 where
 -- all that is known of what a transaction came to, where `f` fragments and `b` bytes were open
 pub record Comes (maximum f b : ℕ) (closes : Outcome → ℕ) (bytes store settings : List ℕ) (d : After Judged) : Type 0 where
   pub is-counted : is_counted (number_of d.result.outcome) ≡ true
-  pub ends-are : d.result.ends ≡ ends_in (closes d.result.outcome) f
+  pub ends-are : row_number d.result.ends ≡ ends_at (closes d.result.outcome) f
   pub bytes-are : d.result.bytes ≡ counted_bytes d.result.outcome (length bytes)
   pub few : d.result.bytes ≤ maximum
   pub some : number_of d.result.outcome ≡ 0 → 1 ≤ d.result.bytes
   pub store-room : max_packet ≤ length store
-  pub store_is : d.store ≡ store_after d.result.outcome (left_open d.result.ends b) bytes store
+  pub store_is : d.store ≡ store_after d.result.outcome (left_open (row_number d.result.ends) b) bytes store
   pub settings_are : Enabling (number_of d.result.outcome) settings d.settings
 
 counts : (n : ℕ) → leb 12 n ≡ false → is_counted n ≡ true
@@ -121,12 +133,12 @@ enabled-counted settings bytes s =
     (λ _. if-cases P _ _ _ (λ _. if-cases P _ _ _ (λ _. counts 11 refl) (λ _. counts 9 refl)) (λ _. counts 8 refl)))
     (λ n. absurd (true≢false (sym s ∙ n))))
   where
-    P : Answered Enabled → Type 0
+    P : Answered Answer → Type 0
     P x = is_counted (settings-enable.number_of x.answer) ≡ true
 
 -- a Receive Enable keeps sound settings sound
 enabling : (settings bytes : List ℕ) → settings_layout.sound settings ≡ true
-    → (let left : Answered Enabled = receive_enabled settings bytes in Enabling (settings-enable.number_of left.answer) settings left.settings)
+    → (let left : Answered Answer = receive_enabled settings bytes in Enabling (settings-enable.number_of left.answer) settings left.settings)
 enabling settings bytes s =
     record { the_rest = (every-enable settings bytes).the_rest; stay-sound = by_number (same_or_not number 11); change = (every-enable settings bytes).refused }
   where
@@ -141,8 +153,7 @@ module _ (maximum f b : ℕ) (none : f ≤ 0 → b ≡ 0) (bytes store settings 
   same-settings : (answer : ℕ) → Enabling answer settings settings
   same-settings answer = record { the_rest = (refl, refl); stay-sound = s; change = λ _. refl }
 
-  ends-in-none : no_row ≡ ends_in no_row f
-  unfolding ends_in
+  ends-in-none : no_row ≡ ends_at no_row f
   ends-in-none = if-cases (λ (r : ℕ). no_row ≡ r) (ltb 0 f) no_row no_row (λ _. refl) (λ _. refl)
 
   left-of-none : b ≡ left_open no_row b
@@ -150,10 +161,10 @@ module _ (maximum f b : ℕ) (none : f ≤ 0 → b ≡ 0) (bytes store settings 
   left-of-none = sym (if-false _ _ _ refl)
 
   -- nothing is left of a packet that a First supersedes
-  left-of-superseded : 0 ≡ left_open (ends_in superseded f) b
+  left-of-superseded : 0 ≡ left_open (row_number (ends_in row.Superseded f)) b
   unfolding ends_in left_open
   left-of-superseded =
-      if-cases (λ (r : ℕ). 0 ≡ (when ltb r row_count then 0 else b)) (ltb 0 f) superseded no_row
+      if-cases (λ (r : Option Row). 0 ≡ (when ltb (row_number r) row_count then 0 else b)) (ltb 0 f) (Some row.Superseded) None
       (λ _. sym (if-true _ _ _ refl)) (λ n. sym (none (ltb-false _ _ n)) ∙ sym (if-false _ _ _ refl))
 
   module _ (first : Bool) where
@@ -165,7 +176,7 @@ module _ (maximum f b : ℕ) (none : f ≤ 0 → b ≡ 0) (bytes store settings 
     unfolding bad_length is_counted when◌then◌else◌
     bad-length-comes = record {
       is-counted = refl;
-      ends-are = refl;
+      ends-are = ends-in-at row.Broken f;
       bytes-are = refl;
       few = omega arith;
       some = λ e. absurd (omega arith);
@@ -174,14 +185,14 @@ module _ (maximum f b : ℕ) (none : f ≤ 0 → b ≡ 0) (bytes store settings 
       settings_are = same-settings 3;
     }
 
-    module _ (least : 1 ≤ length bytes) (most : length bytes ≤ maximum) (at ends : ℕ)
-        (ends_as : ends ≡ ends_in (when first then superseded else no_row) f) (at-is : at ≡ left_open ends b) where
+    module _ (least : 1 ≤ length bytes) (most : length bytes ≤ maximum) (at : ℕ) (ends : Option Row)
+        (ends_as : row_number ends ≡ ends_at (when first then superseded else no_row) f) (at-is : at ≡ left_open (row_number ends) b) where
       -- the outcomes of a fragment of an allowed length
       takes : (o : Outcome) (after : List ℕ) → is_counted (number_of o) ≡ true → eqb (number_of o) 3 ≡ false → counted_bytes o (length bytes) ≡ length bytes
           → after ≡ store_after o at bytes store → Goes (stored (judged o ends (length bytes)) after)
       takes o after c n size e = record {
         is-counted = c;
-        ends-are = ends_as ∙ ap (λ (row : ℕ). ends_in row f) (sym (if-false _ _ _ n));
+        ends-are = ends_as ∙ ap (λ (place : ℕ). ends_at place f) (sym (if-false _ _ _ n));
         bytes-are = sym size;
         few = most;
         some = λ _. least;
@@ -217,19 +228,19 @@ module _ (maximum f b : ℕ) (none : f ≤ 0 → b ≡ 0) (bytes store settings 
         let least : 1 ≤ length bytes = ltb-false _ _ some in
         let most : length bytes ≤ maximum = ltb-false _ _ few in
         if-cases P first _ _
-        (λ e. joined-comes least most 0 (ends_in superseded f) (ap (λ (row : ℕ). ends_in row f) (sym (if-true _ _ _ e))) left-of-superseded last link_up)
+        (λ e. joined-comes least most 0 (ends_in row.Superseded f) (ends-in-at row.Superseded f ∙ ap (λ (place : ℕ). ends_at place f) (sym (if-true _ _ _ e))) left-of-superseded last link_up)
         (λ n.
-        let ends_as : no_row ≡ ends_in (when first then superseded else no_row) f = ends-in-none ∙ ap (λ (row : ℕ). ends_in row f) (sym (if-false _ _ _ n)) in
+        let ends_as : no_row ≡ ends_at (when first then superseded else no_row) f = ends-in-none ∙ ap (λ (place : ℕ). ends_at place f) (sym (if-false _ _ _ n)) in
         if-cases P _ _ _
-        (λ _. joined-comes least most b no_row ends_as left-of-none last link_up)
-        (λ _. takes least most b no_row ends_as left-of-none (outcome.Discarded cause.Aborted) store (counts _ refl) refl refl refl))))
+        (λ _. joined-comes least most b None ends_as left-of-none last link_up)
+        (λ _. takes least most b None ends_as left-of-none (outcome.Discarded cause.Aborted) store (counts _ refl) refl refl refl))))
       where
-        P : Sequence → Type 0
+        P : Option joins.Joins → Type 0
         P q = Goes (by_sequence q bytes last link_up store)
 
   -- a command leaves the store and counts no bytes
-  command-comes : (closes : Outcome → ℕ) (o : Outcome) (ends : ℕ) (left : List ℕ) → is_counted (number_of o) ≡ true → 7 ≤ number_of o
-      → counted_bytes o (length bytes) ≡ 0 → store_after o (left_open ends b) bytes store ≡ store → ends ≡ ends_in (closes o) f → Enabling (number_of o) settings left
+  command-comes : (closes : Outcome → ℕ) (o : Outcome) (ends : Option Row) (left : List ℕ) → is_counted (number_of o) ≡ true → 7 ≤ number_of o
+      → counted_bytes o (length bytes) ≡ 0 → store_after o (left_open (row_number ends) b) bytes store ≡ store → row_number ends ≡ ends_at (closes o) f → Enabling (number_of o) settings left
       → Comes maximum f b closes bytes store settings (after (judged o ends 0) store left)
   command-comes closes o ends left c many size e ends_as enables = record {
     is-counted = c;
@@ -247,14 +258,14 @@ module _ (maximum f b : ℕ) (none : f ≤ 0 → b ≡ 0) (bytes store settings 
   unknown-comes command = by_flags (has_both_flags command)
     where
       by_flags : (t : Bool) → Comes maximum f b (λ (o : Outcome). when t then flushed else no_row) bytes store settings
-          (after (when t then judged outcome.Unknown (ends_in flushed f) 0 else judged outcome.Unknown no_row 0) store settings)
-      by_flags true = command-comes _ outcome.Unknown _ settings (counts 7 refl) (omega arith) refl refl refl (same-settings 7)
+          (after (when t then judged outcome.Unknown (ends_in row.Flushed f) 0 else judged outcome.Unknown None 0) store settings)
+      by_flags true = command-comes _ outcome.Unknown _ settings (counts 7 refl) (omega arith) refl refl (ends-in-at row.Flushed f) (same-settings 7)
       by_flags false = command-comes _ outcome.Unknown _ settings (counts 7 refl) (omega arith) refl refl ends-in-none (same-settings 7)
 
-  enabled-comes : (e : Enabled) (left : List ℕ) → is_counted (settings-enable.number_of e) ≡ true → Enabling (settings-enable.number_of e) settings left
-      → Comes maximum f b (λ (o : Outcome). flushed) bytes store settings (after (enabled_as e (ends_in flushed f)) store left)
-  enabled-comes enabled.Taken left c e = command-comes _ outcome.Taken _ left c (omega arith) refl refl refl e
-  enabled-comes (enabled.Refused r) left c e = command-comes _ (outcome.Refused r) _ left c (omega (arith, counted-refusals r c)) refl refl refl e
+  enabled-comes : (e : Answer) (left : List ℕ) → is_counted (settings-enable.number_of e) ≡ true → Enabling (settings-enable.number_of e) settings left
+      → Comes maximum f b (λ (o : Outcome). flushed) bytes store settings (after (enabled_as e (ends_in row.Flushed f)) store left)
+  enabled-comes (Ok taken) left c e = command-comes _ outcome.Taken _ left c (omega arith) refl refl (ends-in-at row.Flushed f) e
+  enabled-comes (Err r) left c e = command-comes _ (outcome.Refused r) _ left c (omega (arith, counted-refusals r c)) refl refl (ends-in-at row.Flushed f) e
 
   pub by-class-comes : (c : Class) (command : ℕ) (link_up : Bool)
       → Comes maximum f b (closes_in c command) bytes store settings (by_class c maximum f b (record { command = command; bytes = bytes; link_up = link_up }) store settings)

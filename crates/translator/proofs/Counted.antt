@@ -14,7 +14,7 @@ use Rattle.prelude.proofs.Tests.{if-cases, if-true}
 use Rattle.record.specs.Transaction.{Transaction}
 use Rattle.state.specs.declared.Account.{Account}
 use Rattle.state.specs.declared.State.{State}
-use Rattle.state.specs.Account.{Formed, account_of, limit, row_count, columns, no_row, is_open, superseded, broken, all_fragments}
+use Rattle.state.specs.Account.{Formed, account_of, limit, row_count, columns, no_row, is_open, superseded, broken, all_fragments, row_number}
 use Rattle.state.specs.Sound.{sound}
 use Rattle.state.specs.State.{with_account}
 use Rattle.state.proofs.Soundness.{AccountSound, account-sound-tells, account-sound-if, Sound, sound-tells, sound-if}
@@ -25,8 +25,8 @@ use Rattle.translator.specs.declared.tally.Tally.{Tally}
 use Rattle.translator.specs.declared.judged.Judged.{Judged}
 use Rattle.translator.specs.Command.{commands, class_in}
 use Rattle.translator.specs.Counting.{add_to, tally_of, left_open, judged_tally, grid_after, beside_after, counted}
-use Rattle.translator.specs.Judge.{ends_in}
 use Rattle.translator.specs.Properties.{fragment_closes, closes_in, closed_row, SameRow, Adds, packet_of, no_packet, open_packet, packet_left}
+use Rattle.translator.proofs.Comes.{ends_at}
 use Rattle.translator.proofs.Added.{GridSound, added-formed, added-elsewhere, added-here, fragments-stand, added-sound}
 use Rattle.translator.proofs.Tallies.{Open, SoundTally, Tallies, tallied}
 use Rattle.translator.proofs.Ways.{Ready, ComesOn}
@@ -63,8 +63,7 @@ closes_in-closes class.Enable command o = λ _. omega arith
 closes_in-closes class.Unknown command o = if-cases (λ (row : ℕ). row < row_count → Closes row) _ _ _ (λ _ _. omega arith) (λ _ l. absurd (omega arith))
 
 -- one ends where one is open
-ends-closes : (row f : ℕ) → (row < row_count → Closes row) → ends_in row f < row_count → Closes (ends_in row f) × (1 ≤ f)
-unfolding ends_in
+ends-closes : (row f : ℕ) → (row < row_count → Closes row) → ends_at row f < row_count → Closes (ends_at row f) × (1 ≤ f)
 ends-closes row f closes =
     if-cases (λ (ends : ℕ). ends < row_count → Closes ends × (1 ≤ f)) (ltb 0 f) row no_row (λ was-open-then l. (closes l, ltb-true _ _ was-open-then)) (λ _ l. absurd (omega arith))
 
@@ -79,10 +78,10 @@ left_open-open maximum ends f b p = by-test (ltb ends row_count)
 -- the grid: the tally's row, then that of the packet that ends
 module _ (t : Tally) (grid : List ℕ) where
   abbrev pub own : List ℕ
-  own = add_to t.row t.added_packets t.added_fragments t.added_bytes grid
+  own = add_to (row_number t.row) t.added_packets t.added_fragments t.added_bytes grid
 
   own-formed : length grid ≡ row_count * columns → length own ≡ row_count * columns
-  own-formed = added-formed grid t.row _ _ _
+  own-formed = added-formed grid (row_number t.row) _ _ _
 
 module _ (ends f b : ℕ) (t : Tally) (grid : List ℕ) where
   abbrev pub both : List ℕ
@@ -92,21 +91,21 @@ module _ (ends f b : ℕ) (t : Tally) (grid : List ℕ) where
     pub both-formed : length both ≡ row_count * columns
     both-formed = added-formed (own t grid) ends 1 f b (own-formed t grid formed)
 
-    pub both-same : (row : ℕ) → (row ≡ t.row → ⊥) → (row ≡ ends → ⊥) → SameRow row grid both
+    pub both-same : (row : ℕ) → (row ≡ row_number t.row → ⊥) → (row ≡ ends → ⊥) → SameRow row grid both
     both-same row n m =
-        let p : SameRow row grid (own t grid) = added-elsewhere grid t.row _ _ _ formed row n in
+        let p : SameRow row grid (own t grid) = added-elsewhere grid (row_number t.row) _ _ _ formed row n in
         let q : SameRow row (own t grid) both = added-elsewhere (own t grid) ends 1 f b (own-formed t grid formed) row m in
         record { packets = q.packets ∙ p.packets; fragments = q.fragments ∙ p.fragments; bytes = q.bytes ∙ p.bytes }
 
-    pub both-closing : (ends ≡ t.row → ⊥) → ends < row_count → Adds ends 1 f b grid both
+    pub both-closing : (ends ≡ row_number t.row → ⊥) → ends < row_count → Adds ends 1 f b grid both
     both-closing apart l =
-        same-then-adds ends 1 f b grid (own t grid) both (added-elsewhere grid t.row _ _ _ formed ends apart)
+        same-then-adds ends 1 f b grid (own t grid) both (added-elsewhere grid (row_number t.row) _ _ _ formed ends apart)
         (added-here (own t grid) ends 1 f b (own-formed t grid formed) l)
 
-    pub both_own : (ends ≡ t.row → ⊥) → t.row < row_count → Adds t.row t.added_packets t.added_fragments t.added_bytes grid both
+    pub both_own : (ends ≡ row_number t.row → ⊥) → row_number t.row < row_count → Adds (row_number t.row) t.added_packets t.added_fragments t.added_bytes grid both
     both_own apart l =
-        adds-then-same t.row _ _ _ grid (own t grid) both (added-here grid t.row _ _ _ formed l)
-        (added-elsewhere (own t grid) ends 1 f b (own-formed t grid formed) t.row (λ e. apart (sym e)))
+        adds-then-same (row_number t.row) _ _ _ grid (own t grid) both (added-here grid (row_number t.row) _ _ _ formed l)
+        (added-elsewhere (own t grid) ends 1 f b (own-formed t grid formed) (row_number t.row) (λ e. apart (sym e)))
 
 -- what a sound tally adds keeps a state sound
 module _ (s : State) (ends : ℕ) (t : Tally) (formed : Formed s.account) (is-sound : Sound s) (room : s.account.beside.total < limit)
@@ -130,12 +129,12 @@ module _ (s : State) (ends : ℕ) (t : Tally) (formed : Formed s.account) (is-so
   after-sound : GridSound after
   after-sound =
       added-sound (own t grid) ends 1 f b
-      (added-sound grid t.row _ _ _ (record { formed = formed; rows-are-sound = a.rows-are-sound; singles-are-sound = a.singles-are-sound }) (λ _. tallies.fair))
+      (added-sound grid (row_number t.row) _ _ _ (record { formed = formed; rows-are-sound = a.rows-are-sound; singles-are-sound = a.singles-are-sound }) (λ _. tallies.fair))
       (λ l. let c : Closes ends × (1 ≤ f) = closes l in let most : _ = a.bytes_most in omega arith)
 
-  no-row-no-fragments : left_open t.row t.added_fragments ≡ 0
+  no-row-no-fragments : left_open (row_number t.row) t.added_fragments ≡ 0
   unfolding left_open
-  no-row-no-fragments = if-cases (λ (n : ℕ). n ≡ 0) (ltb t.row row_count) _ _ (λ _. refl) (λ l. tallies.none (ltb-false _ _ l))
+  no-row-no-fragments = if-cases (λ (n : ℕ). n ≡ 0) (ltb (row_number t.row) row_count) _ _ (λ _. refl) (λ l. tallies.none (ltb-false _ _ l))
 
   -- every fragment stands in the grid or is open
   fragments-after : all_fragments row_count after + left_open ends f ≡ all_fragments row_count grid + t.added_fragments + f
@@ -143,7 +142,7 @@ module _ (s : State) (ends : ℕ) (t : Tally) (formed : Formed s.account) (is-so
       omega (
         arith,
         no-row-no-fragments,
-        fragments-stand grid t.row t.added_packets t.added_fragments t.added_bytes formed,
+        fragments-stand grid (row_number t.row) t.added_packets t.added_fragments t.added_bytes formed,
         fragments-stand (own t grid) ends 1 f b (own-formed t grid formed),
       )
 
@@ -172,7 +171,7 @@ module _ (s : State) (store settings : List ℕ) (t : Transaction) (d : After Ju
   o = d.result.outcome
 
   abbrev ends : ℕ
-  ends = d.result.ends
+  ends = row_number d.result.ends
 
   abbrev pub tally : Tally
   tally = judged_tally d.result before.beside
@@ -195,7 +194,7 @@ module _ (s : State) (store settings : List ℕ) (t : Transaction) (d : After Ju
       (tallied s.maximum _ _ (length t.bytes) is-sound.most (left_open-open s.maximum ends _ _ was-open) o w.is-counted (omega arith) (λ z. omega (arith, w.some z)))
 
   pub ends-closed : ends ≡ closed_row before t.command o
-  unfolding closed_row ends_in
+  unfolding closed_row
   ends-closed = w.ends-are ∙ ap (λ (row : ℕ). when is_open before then row else no_row) (sym (if-true _ _ _ w.is-counted))
 
   closed-apart : ends < row_count → Closes ends × (1 ≤ before.beside.open_fragments)
@@ -203,7 +202,7 @@ module _ (s : State) (store settings : List ℕ) (t : Transaction) (d : After Ju
       subst (λ (row : ℕ). row < row_count → Closes row × (1 ≤ before.beside.open_fragments)) (sym w.ends-are)
       (ends-closes (closes_in (class_in commands t.command) t.command o) _ (closes_in-closes (class_in commands t.command) t.command o))
 
-  pub own-not-ends : ends < row_count → ends ≡ tally.row → ⊥
+  pub own-not-ends : ends < row_count → ends ≡ row_number tally.row → ⊥
   own-not-ends l e = let c : Closes ends = (closed-apart l).0 in tallies.sound.apart ends c.from c.to e
 
   pub left_is : packet_left before t.command o ≡ packet_of (left_open ends before.beside.open_fragments) (left_open ends before.beside.open_bytes)

@@ -1,17 +1,16 @@
 -- No number of an account that a transaction is counted in grows past what fits.
 -- Assumes nothing.
 use Prim.Native.Nat.{ℕ, ◌≤◌, ◌<◌}
-use mathlib.Core.Bool.{Bool, true}
+use mathlib.Core.Bool.{true}
 use mathlib.Core.Path.{◌≡◌, refl, sym, ap, ◌∙◌}
 use native.Mathlib.Nat.{le_trans, mul-le-mul_left}
 use native.Mathlib.Omega.{arith}
-use lib.Dec.{ltb}
 use borrow.Author.Rules.{rules}
 use Rattle.prelude.proofs.Tests.{if-cases}
 use Rattle.packet.specs.Store.{max_packet, sent_length}
 use Rattle.state.specs.declared.Account.{Account}
 use Rattle.state.specs.declared.Beside.{Beside}
-use Rattle.state.specs.Account.{Formed, limit, row_count, packets_in, fragments_in, bytes_in}
+use Rattle.state.specs.Account.{Formed, limit, row_count, packets_in, fragments_in, bytes_in, row_number}
 use Rattle.state.specs.Grid.{cell, rows_of, flat_of}
 use Rattle.state.specs.Sound.{account_sound}
 use Rattle.state.specs.State.{max_maximum}
@@ -21,26 +20,13 @@ use Rattle.outcome.specs.declared.Cause.{Cause}
 use Rattle.outcome.specs.declared.Cause.TheVariants as cause
 use Rattle.outcome.specs.declared.Outcome.{Outcome}
 use Rattle.outcome.specs.declared.Outcome.TheVariants as outcome
-use Rattle.translator.specs.declared.fragment.Sequence.{Sequence}
-use Rattle.translator.specs.declared.fragment.Sequence.TheVariants as sequence
 use Rattle.translator.specs.declared.judged.Judged.{Judged}
 use Rattle.translator.specs.Counting.{left_open, cause_tally, tally_of, judged_tally}
-use Rattle.translator.specs.Judge.{sequence_of}
 use Rattle.translator.specs.Rows.{BesideFits, TallyFits, AccountFits, most}
 
 pub sent-length-within : (total : ℕ) → total ≤ max_packet → sent_length total ≤ max_packet
 unfolding sent_length
 sent-length-within total few = if-cases (λ (n : ℕ). n ≤ max_packet) _ _ _ (λ _. omega arith) (λ _. few)
-
--- a fragment joins a packet of no more bytes than are open
-pub joins-within : (first : Bool) (open_fragments open_bytes at ends : ℕ) → sequence_of first open_fragments open_bytes ≡ sequence.Joins at ends → at ≤ open_bytes
-unfolding sequence_of
-joins-within first f b at ends =
-    if-cases P first _ _ (λ _ e. let zero-bytes : at ≡ 0 = cc in omega arith)
-    (λ _. if-cases P (ltb 0 f) _ _ (λ _ e. let all-bytes : at ≡ b = cc in omega arith) (λ _ e. let z : ◌≡◌ {A = ℕ} 0 1 = cc in absurd (omega arith)))
-  where
-    P : Sequence → Type 0
-    P s = s ≡ sequence.Joins at ends → at ≤ b
 
 pub left-open-least : (ends n : ℕ) → left_open ends n ≤ n
 unfolding left_open
@@ -68,9 +54,9 @@ module _ (f b size : ℕ) (few : f ≤ limit) (much : b ≤ most) (small : size 
 
 pub tally-fits : (j : Judged) (b : Beside) → BesideFits b → j.bytes ≤ max_maximum → TallyFits (judged_tally j b)
 tally-fits j b fits small =
-    outcome_fits (left_open j.ends b.open_fragments) (left_open j.ends b.open_bytes) j.bytes
-    (le_trans (left-open-least j.ends b.open_fragments) fits.held_fragments)
-    (le_trans (left-open-least j.ends b.open_bytes) fits.held_bytes) small j.outcome
+    outcome_fits (left_open (row_number j.ends) b.open_fragments) (left_open (row_number j.ends) b.open_bytes) j.bytes
+    (le_trans (left-open-least (row_number j.ends) b.open_fragments) fits.held_fragments)
+    (le_trans (left-open-least (row_number j.ends) b.open_bytes) fits.held_bytes) small j.outcome
 
 -- a sound account fits
 pub sound-fits : (a : Account) → Formed a → account_sound a ≡ true → AccountFits a

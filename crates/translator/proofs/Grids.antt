@@ -10,7 +10,7 @@ use borrow.Author.Tests.{ltb-true}
 use Rattle.prelude.specs.Choice.{when◌then◌else◌}
 use Rattle.prelude.proofs.Lists.{elements, all-elements}
 use Rattle.state.specs.declared.Beside.{Beside}
-use Rattle.state.specs.Account.{row_count, columns}
+use Rattle.state.specs.Account.{row_count, columns, row_number}
 use Rattle.state.specs.Grid.{rows_of, flat_of}
 use Rattle.state.proofs.Rows.{nine, flat_rows}
 use Rattle.translator.specs.declared.tally.Tally.{Tally}
@@ -35,8 +35,8 @@ module _ (grid : List ℕ) (row packets fragments bytes : ℕ) (formed : length 
       by-test false l = rw l
 
 module _ (grid : List ℕ) (ends : ℕ) (b : Beside) (t : Tally) (formed : length grid ≡ row_count * columns) where
-  own-formed : length (add_to t.row t.added_packets t.added_fragments t.added_bytes grid) ≡ row_count * columns
-  own-formed = added-formed grid t.row t.added_packets t.added_fragments t.added_bytes formed
+  own-formed : length (add_to (row_number t.row) t.added_packets t.added_fragments t.added_bytes grid) ≡ row_count * columns
+  own-formed = added-formed grid (row_number t.row) t.added_packets t.added_fragments t.added_bytes formed
 
   grid-after-formed : length (grid_after ends b t grid) ≡ row_count * columns
   unfolding grid_after
@@ -45,7 +45,7 @@ module _ (grid : List ℕ) (ends : ℕ) (b : Beside) (t : Tally) (formed : lengt
   pub rows-after-are : rows_after ends b t (rows_of grid) ≡ rows_of (grid_after ends b t grid)
   unfolding rows_after grid_after
   rows-after-are =
-      rw (rows-added grid t.row t.added_packets t.added_fragments t.added_bytes formed)
+      rw (rows-added grid (row_number t.row) t.added_packets t.added_fragments t.added_bytes formed)
       (rows-added _ ends 1 b.open_fragments b.open_bytes own-formed)
 
   pub flat_after : flat_of (rows_after ends b t (rows_of grid)) ≡ grid_after ends b t grid

@@ -4,18 +4,18 @@ use Prim.Native.Nat.{ℕ}
 use mathlib.Core.List.{List}
 use mathlib.Core.Path.{◌≡◌, refl, sym, ap, ◌∙◌}
 use native.Mathlib.Omega.{arith}
+use Rattle.std.specs.Prelude.{Ok}
 use Rattle.prelude.specs.After.{after}
 use Rattle.prelude.specs.Choice.{when◌then◌else◌}
 use Rattle.record.specs.Transaction.{Transaction}
 use Rattle.state.specs.declared.Beside.{Beside}
-use Rattle.state.specs.Account.{limit}
+use Rattle.state.specs.Account.{limit, row_number}
 use Rattle.state.specs.Grid.{rows_of, flat_of}
 use Rattle.state.specs.State.{state_of}
 use Rattle.outcome.specs.declared.Outcome.{Outcome}
+use Rattle.translator.specs.declared.records.Held.{Held}
 use Rattle.translator.specs.declared.tally.Tally.{Tally}
 use Rattle.translator.specs.declared.judged.Judged.{Judged}
-use Rattle.translator.specs.declared.readiness.Readiness.{Readiness}
-use Rattle.translator.specs.declared.readiness.Readiness.TheVariants as readiness
 use Rattle.translator.specs.declared.step.Step.{Step}
 use Rattle.translator.specs.Command.{commands, class_in}
 use Rattle.translator.specs.Counting.{add_to, judged_tally, grid_after, beside_after, counted}
@@ -23,7 +23,7 @@ use Rattle.translator.specs.Held.{Placed, Steps, TakesRecord, held, rejected_ste
 use Rattle.translator.specs.Judge.{by_class}
 use Rattle.translator.specs.Replay.{state_after}
 use Rattle.translator.specs.Rows.{BesideFits, TallyFits, rows_after}
-use Rattle.translator.specs.Transact.{with, applied, readiness_of, transacted}
+use Rattle.translator.specs.Transact.{Readiness, with, applied, readiness_of, transacted}
 use Rattle.translator.proofs.Grids.{rows-after-are, flat_after}
 use Rattle.translator.proofs.Readied.{counted_is}
 use Rattle.translator.proofs.Room.{own_room, ended-room}
@@ -38,7 +38,7 @@ module _ (r : Readiness) (beside : Beside) (maximum : ℕ) (store settings : Lis
     fits = λ rows _. record { own = λ l. absurd (omega arith); ended = λ l. absurd (omega arith) };
   }
 
-  pub counted-steps : (j : Judged) (y : Tally) (after-it : Beside) (store' settings' : List ℕ) → r ≡ readiness.Ready → (beside.total ≡ limit → ⊥)
+  pub counted-steps : (j : Judged) (y : Tally) (after-it : Beside) (store' settings' : List ℕ) → r ≡ Ok tt → (beside.total ≡ limit → ⊥)
       → after j store' settings' ≡ by_class (class_in commands t.command) maximum beside.open_fragments beside.open_bytes t store settings
       → y ≡ judged_tally j beside → after-it ≡ beside_after y beside → BesideFits beside → TallyFits y
       → Steps r beside maximum store settings t (record { outcome = j.outcome; ends = j.ends; tally = y; beside = after-it }) store' settings'
@@ -47,23 +47,23 @@ module _ (r : Readiness) (beside : Beside) (maximum : ℕ) (store settings : Lis
     steps = λ grid e.
         rw (numbers, tallied)
         (sym (counted_is (state_of grid beside maximum) store settings t (sym e ∙ ready) room ∙ ap (applied (state_of grid beside maximum)) (sym comes)));
-    fits = λ rows rows_fit. record { own = own_room rows y (rows_fit ready) tally-fits; ended = ended-room rows j.ends beside y (rows_fit ready) beside-fits tally-fits };
+    fits = λ rows rows_fit. record { own = own_room rows y (rows_fit ready) tally-fits; ended = ended-room rows (row_number j.ends) beside y (rows_fit ready) beside-fits tally-fits };
   }
 
-module _ (rows : List (List ℕ)) (beside : Beside) (maximum : ℕ) (store settings : List ℕ) (t : Transaction) (placed : Placed rows) where
+module _ (h : Held) (store settings : List ℕ) (t : Transaction) (placed : Placed h.rows) where
   module _ (ends : ℕ) (y : Tally) where
-    flat-is : flat_of (rows_after ends beside y rows) ≡ grid_after ends beside y (flat_of rows)
-    flat-is = ap (λ (r : List (List ℕ)). flat_of (rows_after ends beside y r)) placed ∙ flat_after (flat_of rows) ends beside y refl
+    flat-is : flat_of (rows_after ends h.beside y h.rows) ≡ grid_after ends h.beside y (flat_of h.rows)
+    flat-is = ap (λ (r : List (List ℕ)). flat_of (rows_after ends h.beside y r)) placed ∙ flat_after (flat_of h.rows) ends h.beside y refl
 
-    after-placed : Placed (rows_after ends beside y rows)
-    after-placed = ap (rows_after ends beside y) placed ∙ (rows-after-are (flat_of rows) ends beside y refl ∙ ap rows_of (sym flat-is))
+    after-placed : Placed (rows_after ends h.beside y h.rows)
+    after-placed = ap (rows_after ends h.beside y) placed ∙ (rows-after-are (flat_of h.rows) ends h.beside y refl ∙ ap rows_of (sym flat-is))
 
-  pub step-takes : (r : Readiness) (s : Step) (store' settings' : List ℕ) (rows' : List (List ℕ)) → r ≡ readiness_of (held rows beside maximum) store settings
-      → Steps r beside maximum store settings t s store' settings' → rows' ≡ rows_after s.ends beside s.tally rows
-      → TakesRecord rows beside maximum store settings t rows' s.beside store' settings'
+  pub step-takes : (r : Readiness) (s : Step) (store' settings' : List ℕ) (rows' : List (List ℕ)) → r ≡ readiness_of (held h) store settings
+      → Steps r h.beside h.maximum store settings t s store' settings' → rows' ≡ rows_after (row_number s.ends) h.beside s.tally h.rows
+      → TakesRecord h store settings t (record { rows = rows'; beside = s.beside; maximum = h.maximum }) store' settings'
   step-takes r s store' settings' rows' known does rows_are =
       rw rows_are
       (record {
-        placed = after-placed s.ends s.tally;
-        taken = rw (flat-is s.ends s.tally) (ap state_after (does.steps (flat_of rows) known));
+        placed = after-placed (row_number s.ends) s.tally;
+        taken = rw (flat-is (row_number s.ends) s.tally) (ap state_after (does.steps (flat_of h.rows) known));
       })

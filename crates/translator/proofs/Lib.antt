@@ -2,7 +2,6 @@ pub mod Added
 pub mod Comes
 pub mod Commands
 pub mod Counted
-pub mod Filled
 pub mod Fits
 pub mod Grids
 pub mod HeldRows

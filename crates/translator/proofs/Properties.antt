@@ -14,7 +14,7 @@ use Rattle.prelude.proofs.Tests.{if-cases, if-false, if-first, if-second}
 use Rattle.record.specs.Transaction.{Transaction}
 use Rattle.state.specs.declared.Account.{Account}
 use Rattle.state.specs.declared.State.{State}
-use Rattle.state.specs.Account.{row_count, no_row}
+use Rattle.state.specs.Account.{row_count, no_row, row_number}
 use Rattle.outcome.specs.declared.Outcome.{Outcome}
 use Rattle.outcome.specs.Outcome.{number_of, is_counted}
 use Rattle.translator.specs.declared.tally.Tally.{Tally}
@@ -88,7 +88,7 @@ every-frame =
     let n : ℕ = s.account.beside.taken in
     let c : _ = (tallies s store settings t d r w).commands in
     record {
-      other_rows = λ row own closed. both-same d.result.ends _ _ (tally s store settings t d r w) s.account.grid r.formed row
+      other_rows = λ row own closed. both-same (row_number d.result.ends) _ _ (tally s store settings t d r w) s.account.grid r.formed row
           (λ e. own (e ∙ (tallies s store settings t d r w).own)) (λ e. closed (e ∙ ends-closed s store settings t d r w));
       taken = λ e. ap (λ (k : ℕ). n + k) (c.taken e);
       not_taken = λ e. omega (arith, c.not_taken e);
@@ -104,7 +104,7 @@ every-closing =
     (λ s store settings t o formed n l. absurd (omega (arith, closes-none s.account t.command o n)))
     (λ s store settings t d r w.
     subst (λ (row : ℕ). Closing row s.account (counted d.result s.account)) (ends-closed s store settings t d r w)
-    (λ l. both-closing d.result.ends _ _ (tally s store settings t d r w) s.account.grid r.formed (own-not-ends s store settings t d r w l) l))
+    (λ l. both-closing (row_number d.result.ends) _ _ (tally s store settings t d r w) s.account.grid r.formed (own-not-ends s store settings t d r w l) l))
 
 module _ (s : State) (store settings : List ℕ) (t : Transaction) (d : After Judged) (r : Ready s) (w : ComesOn s store settings t d) where
   abbrev o : Outcome
@@ -116,12 +116,12 @@ module _ (s : State) (store settings : List ℕ) (t : Transaction) (d : After Ju
   abbrev left : Account
   left = counted d.result s.account
 
-  own-adds : (row packets fragments bytes : ℕ) → added.row ≡ row → InRow packets fragments bytes added → Adds row packets fragments bytes s.account.grid left.grid
+  own-adds : (row packets fragments bytes : ℕ) → row_number added.row ≡ row → InRow packets fragments bytes added → Adds row packets fragments bytes s.account.grid left.grid
   unfolding counted grid_after
   own-adds row packets fragments bytes e i =
       rw (← e, ← i.packets-are, ← i.fragments-are, ← i.bytes-are)
-      (both_own d.result.ends _ _ added s.account.grid r.formed
-      (λ q. let less : added.row < row_count = i.in-grid in own-not-ends s store settings t d r w (omega arith) q) i.in-grid)
+      (both_own (row_number d.result.ends) _ _ added s.account.grid r.formed
+      (λ q. let less : row_number added.row < row_count = i.in-grid in own-not-ends s store settings t d r w (omega arith) q) i.in-grid)
 
   opens : (f b : ℕ) → Opens f b added → open_packet left ≡ packet_of f b
   unfolding counted
@@ -130,7 +130,7 @@ module _ (s : State) (store settings : List ℕ) (t : Transaction) (d : After Ju
   counted-leaves : Leaves (packet_left s.account t.command o) (length t.bytes) s.account o left
   unfolding when◌then◌else◌
   counted-leaves =
-      let own : added.row ≡ own_row o = (tallies s store settings t d r w).own in
+      let own : row_number added.row ≡ own_row o = (tallies s store settings t d r w).own in
       let c : _ = (tallies s store settings t d r w).fragments in
       subst (λ (p : Packet). Leaves p (length t.bytes) s.account o left) (sym (left_is s store settings t d r w)) (record {
         joined_goes_behind_what_is_left = λ e. opens _ _ (c.joined e);

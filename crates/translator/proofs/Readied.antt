@@ -6,6 +6,7 @@ use mathlib.Core.Path.{◌≡◌}
 use native.Mathlib.Nat.{le_trans}
 use lib.ListN.{length}
 use borrow.Author.Tests.{eq-eqb, ne_eqb}
+use Rattle.std.specs.Prelude.{Ok, Err}
 use Rattle.prelude.specs.After.{after}
 use Rattle.prelude.proofs.Tests.{if-true, if-false}
 use Rattle.packet.specs.Store.{max_packet}
@@ -16,13 +17,12 @@ use Rattle.state.specs.State.{max_maximum}
 use Rattle.state.proofs.Soundness.{sound-tells}
 use Rattle.outcome.specs.declared.Outcome.{Outcome}
 use Rattle.outcome.specs.declared.Outcome.TheVariants as outcome
-use Rattle.translator.specs.declared.readiness.Readiness.TheVariants as readiness
 use Rattle.translator.specs.Rows.{AccountFits}
 use Rattle.translator.specs.Transact.{with, readiness_of, judged_on, applied, by_readiness, transacted}
 use Rattle.translator.proofs.Fits.{sound-fits}
 use Rattle.translator.proofs.Ways.{ready-usable, usable-comes}
 
-module _ (s : State) (store settings : List ℕ) (ready : readiness_of s store settings ≡ readiness.Ready) where
+module _ (s : State) (store settings : List ℕ) (ready : readiness_of s store settings ≡ Ok tt) where
   pub ready-maximum : s.maximum ≤ max_maximum
   ready-maximum = (sound-tells s (ready-usable s store settings ready).state_is_sound).most
 
@@ -33,11 +33,11 @@ module _ (s : State) (store settings : List ℕ) (ready : readiness_of s store s
   ready-fits formed = sound-fits s.account formed (sound-tells s (ready-usable s store settings ready).state_is_sound).account-is-sound
 
 module _ (s : State) (store settings : List ℕ) (t : Transaction) where
-  pub rejected-is : (o : Outcome) → readiness_of s store settings ≡ readiness.Rejected o → transacted s store settings t ≡ after (with s o) store settings
+  pub rejected-is : (o : Outcome) → readiness_of s store settings ≡ Err o → transacted s store settings t ≡ after (with s o) store settings
   unfolding transacted by_readiness
   rejected-is o e = rw e
 
-  module _ (ready : readiness_of s store settings ≡ readiness.Ready) where
+  module _ (ready : readiness_of s store settings ≡ Ok tt) where
     pub full_is : s.account.beside.total ≡ limit → transacted s store settings t ≡ after (with s outcome.Full) store settings
     unfolding transacted by_readiness
     full_is e = rw ready (if-true _ _ _ (eq-eqb _ _ e))

@@ -11,7 +11,7 @@ use lib.Seq.{get_or-set_same, get_or-set_other}
 use borrow.Author.Tests.{ltb-true}
 use Rattle.prelude.proofs.Tests.{if-cases}
 use Rattle.state.specs.declared.Beside.{Beside}
-use Rattle.state.specs.Account.{row_count}
+use Rattle.state.specs.Account.{row_count, row_number}
 use Rattle.state.specs.Grid.{cell}
 use Rattle.state.specs.State.{max_maximum}
 use Rattle.translator.specs.declared.tally.Tally.{Tally}
@@ -22,9 +22,9 @@ use Rattle.prelude.proofs.Tests.{same_or_not}
 abbrev Within : ℕ → List ℕ → Type 0
 Within n cells = (get_or cells 0 0 ≤ n) × (get_or cells 1 0 ≤ n) × (get_or cells 2 0 ≤ n)
 
-pub own_room : (r : List (List ℕ)) (t : Tally) → RowsFit r → TallyFits t → Room t.row t.added_packets t.added_fragments t.added_bytes r
+pub own_room : (r : List (List ℕ)) (t : Tally) → RowsFit r → TallyFits t → Room (row_number t.row) t.added_packets t.added_fragments t.added_bytes r
 own_room r t fits adds l =
-    let cells : _ = fits.cells t.row l in
+    let cells : _ = fits.cells (row_number t.row) l in
     (omega (arith, adds.packets, cells.0), omega (arith, adds.fragments, cells.1), omega (arith, adds.bytes, cells.2))
 
 -- after so much was added to a row, any row has at most so much more
@@ -44,8 +44,8 @@ added-within r row packets fragments bytes other n m nine here there p f b =
     at_row l (inr e) = rw (get_or-set_other r row other more [] e) (omega arith, omega arith, omega arith)
 
 pub ended-room : (r : List (List ℕ)) (ends : ℕ) (b : Beside) (t : Tally) → RowsFit r → BesideFits b → TallyFits t
-    → Room ends 1 b.open_fragments b.open_bytes (in_rows r t.row t.added_packets t.added_fragments t.added_bytes)
+    → Room ends 1 b.open_fragments b.open_bytes (in_rows r (row_number t.row) t.added_packets t.added_fragments t.added_bytes)
 ended-room r ends b t fits beside adds l =
-    let cells : Within (most + (most + max_maximum)) (get_or (in_rows r t.row t.added_packets t.added_fragments t.added_bytes) ends []) =
-    added-within r t.row _ _ _ ends most (most + max_maximum) fits.all_rows (fits.cells t.row) (fits.cells ends l) adds.packets adds.fragments adds.bytes in
+    let cells : Within (most + (most + max_maximum)) (get_or (in_rows r (row_number t.row) t.added_packets t.added_fragments t.added_bytes) ends []) =
+    added-within r (row_number t.row) _ _ _ ends most (most + max_maximum) fits.all_rows (fits.cells (row_number t.row)) (fits.cells ends l) adds.packets adds.fragments adds.bytes in
     (omega arith, omega (arith, beside.held_fragments), omega (arith, beside.held_bytes))

@@ -5,7 +5,7 @@ use mathlib.Core.Bool.{true, true≢false}
 use mathlib.Core.Path.{◌≡◌, refl, sym}
 use native.Mathlib.Omega.{arith}
 use Rattle.prelude.specs.Choice.{when◌then◌else◌}
-use Rattle.state.specs.Account.{row_count, superseded, broken, aborted, badlength}
+use Rattle.state.specs.Account.{row_count, superseded, broken, aborted, badlength, row_number}
 use Rattle.state.specs.State.{max_maximum}
 use Rattle.outcome.specs.declared.Cause.TheVariants as cause
 use Rattle.outcome.specs.declared.Outcome.{Outcome}
@@ -25,9 +25,9 @@ pub record Open (maximum f b : ℕ) : Type 0 where
 
 -- a tally that keeps an account sound, behind the `f` fragments that are left open
 pub record SoundTally (maximum f : ℕ) (t : Tally) : Type 0 where
-  pub apart : (row : ℕ) → superseded ≤ row → row ≤ broken → row ≡ t.row → ⊥
-  pub fair : Fair t.row t.added_packets t.added_fragments t.added_bytes
-  pub none : row_count ≤ t.row → t.added_fragments ≡ 0
+  pub apart : (row : ℕ) → superseded ≤ row → row ≤ broken → row ≡ row_number t.row → ⊥
+  pub fair : Fair (row_number t.row) t.added_packets t.added_fragments t.added_bytes
+  pub none : row_count ≤ row_number t.row → t.added_fragments ≡ 0
   pub sum : t.added_fragments + t.open_fragments + t.added_taken + t.added_refused ≡ f + 1
   pub leaves : Open maximum t.open_fragments t.open_bytes
 
@@ -41,7 +41,7 @@ pub record CommandTally (n : ℕ) (t : Tally) : Type 0 where
 
 -- what a tally adds to its row, and what is open then
 pub record InRow (packets fragments bytes : ℕ) (t : Tally) : Type 0 where
-  pub in-grid : t.row < row_count
+  pub in-grid : row_number t.row < row_count
   pub packets-are : t.added_packets ≡ packets
   pub fragments-are : t.added_fragments ≡ fragments
   pub bytes-are : t.added_bytes ≡ bytes
@@ -53,12 +53,12 @@ Opens fragments bytes t = (t.open_fragments ≡ fragments) × (t.open_bytes ≡ 
 pub record FragmentTally (n f b size : ℕ) (t : Tally) : Type 0 where
   pub joined : n ≡ 0 → Opens (f + 1) (b + size) t
   pub completed : 1 ≤ n → n ≤ 6 → (n ≡ 2 → ⊥) → (n ≡ 3 → ⊥) → Opens 0 0 t × InRow 1 (f + 1) (b + size) t
-  pub aborts : n ≡ 2 → (t.row ≡ aborted) × InRow 0 1 size t
-  pub breaks : n ≡ 3 → (t.row ≡ badlength) × InRow 0 1 0 t
+  pub aborts : n ≡ 2 → (row_number t.row ≡ aborted) × InRow 0 1 size t
+  pub breaks : n ≡ 3 → (row_number t.row ≡ badlength) × InRow 0 1 0 t
   pub others : (n ≡ 0 → ⊥) → (n ≡ 1 → ⊥) → (n ≡ 4 → ⊥) → (n ≡ 5 → ⊥) → (n ≡ 6 → ⊥) → Opens f b t
 
 pub record Tallies (o : Outcome) (maximum f b size : ℕ) (t : Tally) : Type 0 where
-  pub own : t.row ≡ own_row o
+  pub own : row_number t.row ≡ own_row o
   pub sound : SoundTally maximum f t
   pub commands : CommandTally (number_of o) t
   pub fragments : FragmentTally (number_of o) f b size t

@@ -4,14 +4,13 @@ use Prim.Native.Nat.{ℕ}
 use mathlib.Core.List.{List}
 use mathlib.Core.Path.{◌≡◌, refl, sym, ap, ◌∙◌}
 use native.Mathlib.Omega.{arith}
+use Rattle.std.specs.Prelude.{Ok, Err}
 use Rattle.prelude.specs.After.{After}
 use Rattle.record.specs.Transaction.{Transaction}
 use Rattle.state.specs.declared.State.{State}
 use Rattle.state.specs.Account.{Formed}
 use Rattle.translator.specs.declared.Transacted.{Transacted}
-use Rattle.translator.specs.declared.readiness.Readiness.{Readiness}
-use Rattle.translator.specs.declared.readiness.Readiness.TheVariants as readiness
-use Rattle.translator.specs.Transact.{readiness_of, by_readiness, transacted}
+use Rattle.translator.specs.Transact.{Readiness, readiness_of, by_readiness, transacted}
 use Rattle.translator.proofs.Keeping.{every-keeping}
 use Rattle.translator.proofs.Properties.{every-transaction}
 pub use Rattle.translator.proofs.Ways.{Usable, ready-usable, usable-ready}
@@ -25,9 +24,9 @@ module _ (s : State) (store settings : List ℕ) (t : Transaction) where
   readiness-stays formed = by-readiness (readiness_of s store settings) refl
     where
       by-readiness : (r : Readiness) → readiness_of s store settings ≡ r → readiness_of left.result.state left.store left.settings ≡ readiness_of s store settings
-      by-readiness (readiness.Rejected o) e =
+      by-readiness (Err o) e =
           ap (λ (r : Readiness). let left : After Transacted = by_readiness r s store settings t in readiness_of left.result.state left.store left.settings) e
-      by-readiness readiness.Ready e =
+      by-readiness (Ok tt) e =
           let u : Usable s store settings = ready-usable s store settings e in
           let counts : _ = every-transaction s store settings t formed in
           let keeps : _ = every-keeping s store settings t formed in

@@ -10,6 +10,7 @@ use native.Mathlib.Omega.{arith}
 use lib.Arith.{lt_of_le-ne}
 use lib.ListN.{length}
 use borrow.Author.Tests.{eqb-true, eqb-false, ltb-true, ltb-false, le-ltb}
+use Rattle.std.specs.Prelude.{Ok, Err}
 use Rattle.prelude.specs.After.{After, after}
 use Rattle.prelude.specs.Choice.{when◌then◌else◌}
 use Rattle.prelude.proofs.Tests.{if-true, if-false, if-cases}
@@ -26,11 +27,9 @@ use Rattle.outcome.specs.declared.Outcome.TheVariants as outcome
 use Rattle.outcome.specs.Outcome.{number_of, is_counted}
 use Rattle.translator.specs.declared.Transacted.{Transacted}
 use Rattle.translator.specs.declared.judged.Judged.{Judged}
-use Rattle.translator.specs.declared.readiness.Readiness.{Readiness}
-use Rattle.translator.specs.declared.readiness.Readiness.TheVariants as readiness
 use Rattle.translator.specs.Command.{commands, class_in}
 use Rattle.translator.specs.Properties.{Every, closes_in, Orders, EveryOrder}
-use Rattle.translator.specs.Transact.{with, readiness_of, judged_on, applied, by_readiness, transacted}
+use Rattle.translator.specs.Transact.{Readiness, with, readiness_of, judged_on, applied, by_readiness, transacted}
 use Rattle.translator.proofs.Comes.{Comes, by-class-comes}
 
 -- a state and buffers that can be used
@@ -50,7 +49,7 @@ pub data Rejects (s : State) (store settings : List ℕ) : Outcome → Type 0 wh
 module _ (s : State) (store settings : List ℕ) where
   -- a state and buffers can be used, or the outcome says why not
   by-readiness : (P : Readiness → Type 0)
-      → ((o : Outcome) → Rejects s store settings o → P (readiness.Rejected o)) → (Usable s store settings → P readiness.Ready) → P (readiness_of s store settings)
+      → ((o : Outcome) → Rejects s store settings o → P (Err o)) → (Usable s store settings → P (Ok tt)) → P (readiness_of s store settings)
   unfolding readiness_of
   by-readiness P rejected ready =
       if-cases P _ _ _ (λ e. rejected _ (too_short (inl (ltb-true _ _ e))))
@@ -61,13 +60,13 @@ module _ (s : State) (store settings : List ℕ) where
       (λ n. rejected _ (not_sound (ltb-false _ _ room) (ltb-false _ _ settings-room) (inr n))))
       (λ n. rejected _ (not_sound (ltb-false _ _ room) (ltb-false _ _ settings-room) (inl n)))))
 
-  pub ready-usable : readiness_of s store settings ≡ readiness.Ready → Usable s store settings
-  ready-usable = by-readiness (λ (r : Readiness). r ≡ readiness.Ready → Usable s store settings) (λ o _ e. never o e) (λ u _. u)
+  pub ready-usable : readiness_of s store settings ≡ Ok tt → Usable s store settings
+  ready-usable = by-readiness (λ (r : Readiness). r ≡ Ok tt → Usable s store settings) (λ o _ e. never o e) (λ u _. u)
     where
-      never : (o : Outcome) → readiness.Rejected o ≡ readiness.Ready → Usable s store settings
+      never : (o : Outcome) → ◌≡◌ {A = Readiness} (Err o) (Ok tt) → Usable s store settings
       never o e = let z : ◌≡◌ {A = ℕ} 0 1 = cc in absurd (omega arith)
 
-  pub usable-ready : Usable s store settings → readiness_of s store settings ≡ readiness.Ready
+  pub usable-ready : Usable s store settings → readiness_of s store settings ≡ Ok tt
   unfolding readiness_of
   usable-ready u =
       if-false _ _ _ (le-ltb _ _ u.store-room)

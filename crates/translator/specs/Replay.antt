@@ -1,7 +1,9 @@
 -- Transactions one after another, and those of a journal's records (manual 9.2, 9.4).
-use Rattle.std.specs.Prelude.{ℕ, ◌+◌, Bool, List, [], ◌∷◌, replicate}
+use Rattle.std.specs.Prelude.{ℕ, ◌+◌, Bool, true, false, List, [], ◌∷◌, replicate}
 use Rattle.prelude.specs.After.{After, after}
 use Rattle.packet.specs.Store.{max_packet}
+use Rattle.record.specs.declared.Stop.{Stop}
+use Rattle.record.specs.declared.Stop.TheVariants as stop
 use Rattle.record.specs.Records.{Records, records_in}
 use Rattle.record.specs.Transaction.{Transaction}
 use Rattle.settings.specs.Layout.{fresh_settings, with_settings}
@@ -9,7 +11,6 @@ use Rattle.state.specs.declared.State.{State}
 use Rattle.state.specs.State.{made}
 use Rattle.translator.specs.declared.Transacted.{Transacted}
 use Rattle.translator.specs.declared.records.Replay.{Replay}
-use Rattle.translator.specs.declared.records.Replayed.{Replayed}
 use Rattle.translator.specs.declared.records.Stopped.{Stopped}
 use Rattle.translator.specs.Transact.{transacted}
 
@@ -21,19 +22,6 @@ state_after d = after d.result.state d.store d.settings
 unfoldable pub all_transacted : After State → List Transaction → After State
 all_transacted c [] = c
 all_transacted c (t ∷ rest) = all_transacted (state_after (transacted c.result c.store c.settings t)) rest
-
--- a state, where the records end, and whether a bad link byte stands there (manual 9.3, 9.5)
-abbrev pub stopped_at : State → ℕ → Bool → Stopped
-stopped_at state at bad_link = record { state = state; at = at; bad_link = bad_link }
-
--- the whole records that some bytes behind the first `from` begin with, and what their transactions leave (manual 9.2, 9.5)
-abbrev pub stopped_after : ℕ → Records → After State → After Stopped
-stopped_after from records c = after (stopped_at c.result (from + records.used) records.bad_link) c.store c.settings
-
--- the same, from a state and buffers on (manual 9.4, 9.5)
-unfoldable pub records_taken : State → List ℕ → List ℕ → ℕ → List ℕ → After Stopped
-records_taken state store settings from bytes =
-    stopped_after from (records_in bytes) (all_transacted (after state store settings) (records_in bytes).transactions)
 
 -- a store of zeros and fresh settings (manual 5.4)
 abbrev pub empty_store : List ℕ
@@ -50,15 +38,33 @@ replay_of state store settings = record { state = state; store = store; settings
 unfoldable pub fresh_replay : ℕ → Replay
 fresh_replay maximum = replay_of (made maximum).state empty_store settings_at_start
 
--- the replay after some records, and where and why it stopped (manual 9.5)
-abbrev pub replayed_with : After Stopped → Replayed
-replayed_with s =
-    record {
-      replay = replay_of s.result.state s.store s.settings;
-      at = s.result.at;
-      bad_link = s.result.bad_link;
-    }
+-- a bad link byte comes next; else the record there is cut, or nothing is left (manual 9.3)
+abbrev pub stop_of : Bool → Stop
+stop_of true = stop.BadLink
+stop_of false = stop.Cut
+
+-- where the records end, and why (manual 9.3, 9.5)
+abbrev pub stopped_at : ℕ → Bool → Stopped
+stopped_at at bad_link = record { at = at; stop = stop_of bad_link }
+
+-- a replay, and where and why it stopped (manual 9.5)
+pub record Replayed : Type 0 where
+  pub replay : Replay
+  pub stopped : Stopped
+
+-- both of these (manual 9.5)
+abbrev pub replayed_to : Replay → Stopped → Replayed
+replayed_to replay stopped = record { replay = replay; stopped = stopped }
+
+-- the whole records that some bytes behind the first `from` begin with, and what their transactions leave (manual 9.2, 9.5)
+abbrev pub stopped_after : ℕ → Records → After State → Replayed
+stopped_after from records c = replayed_to (replay_of c.result c.store c.settings) (stopped_at (from + records.used) records.bad_link)
+
+-- the same, from a state and buffers on (manual 9.4, 9.5)
+unfoldable pub records_taken : State → List ℕ → List ℕ → ℕ → List ℕ → Replayed
+records_taken state store settings from bytes =
+    stopped_after from (records_in bytes) (all_transacted (after state store settings) (records_in bytes).transactions)
 
 -- what the records of some bytes leave of a replay (manual 9.5)
-unfoldable pub replayed : Replay → ℕ → List ℕ → Replayed
-replayed r from bytes = replayed_with (records_taken r.state r.store r.settings from bytes)
+abbrev pub replayed : Replay → ℕ → List ℕ → Replayed
+replayed r from bytes = records_taken r.state r.store r.settings from bytes

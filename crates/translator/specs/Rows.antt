@@ -3,7 +3,7 @@ use Rattle.std.specs.Prelude.{ℕ, ◌+◌, ◌*◌, ◌<◌, ◌≤◌, ◌^◌
 use Rattle.prelude.specs.Choice.{when◌then◌else◌}
 use Rattle.state.specs.declared.Account.{Account}
 use Rattle.state.specs.declared.Beside.{Beside}
-use Rattle.state.specs.Account.{Formed, limit, row_count}
+use Rattle.state.specs.Account.{Formed, limit, row_count, row_number}
 use Rattle.state.specs.Grid.{cell, rows_of}
 use Rattle.state.specs.State.{max_maximum}
 use Rattle.translator.specs.declared.tally.Tally.{Tally}
@@ -17,7 +17,7 @@ in_rows r row packets fragments bytes =
 -- the rows after a transaction: its own, then the one in which the open packet ends
 unfoldable pub rows_after : ℕ → Beside → Tally → List (List ℕ) → List (List ℕ)
 rows_after ends b t r =
-    in_rows (in_rows r t.row t.added_packets t.added_fragments t.added_bytes) ends 1 b.open_fragments b.open_bytes
+    in_rows (in_rows r (row_number t.row) t.added_packets t.added_fragments t.added_bytes) ends 1 b.open_fragments b.open_bytes
 
 -- the cells of a row take so much more
 abbrev pub Room : ℕ → ℕ → ℕ → ℕ → List (List ℕ) → Type 0
@@ -49,8 +49,8 @@ pub record TallyFits (t : Tally) : Type 0 where
 
 -- no cell grows past what fits, in the transaction's own row and in the one in which the packet ends
 pub record CountFits (ends : ℕ) (b : Beside) (t : Tally) (r : List (List ℕ)) : Type 0 where
-  pub own : Room t.row t.added_packets t.added_fragments t.added_bytes r
-  pub ended : Room ends 1 b.open_fragments b.open_bytes (in_rows r t.row t.added_packets t.added_fragments t.added_bytes)
+  pub own : Room (row_number t.row) t.added_packets t.added_fragments t.added_bytes r
+  pub ended : Room ends 1 b.open_fragments b.open_bytes (in_rows r (row_number t.row) t.added_packets t.added_fragments t.added_bytes)
 
 -- an account in which one transaction more can be counted
 pub record AccountFits (a : Account) : Type 0 where

@@ -1,5 +1,5 @@
 -- One transaction from end to end (manual 2.2, 2.3).
-use Rattle.std.specs.Prelude.{ℕ, List, eqb, ltb, length}
+use Rattle.std.specs.Prelude.{ℕ, List, Result, Ok, Err, ⊤, eqb, ltb, length}
 use Rattle.prelude.specs.After.{After, after}
 use Rattle.prelude.specs.Choice.{when◌then◌else◌}
 use Rattle.packet.specs.Store.{max_packet}
@@ -13,8 +13,6 @@ use Rattle.outcome.specs.declared.Outcome.{Outcome}
 use Rattle.outcome.specs.declared.Outcome.TheVariants as outcome
 use Rattle.translator.specs.declared.Transacted.{Transacted}
 use Rattle.translator.specs.declared.judged.Judged.{Judged}
-use Rattle.translator.specs.declared.readiness.Readiness.{Readiness}
-use Rattle.translator.specs.declared.readiness.Readiness.TheVariants as readiness
 use Rattle.translator.specs.Command.{commands, class_in}
 use Rattle.translator.specs.Counting.{counted}
 use Rattle.translator.specs.Judge.{by_class}
@@ -23,14 +21,18 @@ use Rattle.translator.specs.Judge.{by_class}
 abbrev pub with : State → Outcome → Transacted
 with state o = record { state = state; outcome = o }
 
+-- a transaction can be taken, or the outcome says why not (manual 2.1)
+abbrev pub Readiness : Type 0
+Readiness = Result ⊤ Outcome
+
 -- 12 where a buffer is too short, 13 where the state or the settings are not sound (manual 2.1)
 unfoldable pub readiness_of : State → List ℕ → List ℕ → Readiness
 readiness_of s store settings =
-    when ltb (length store) max_packet then readiness.Rejected outcome.NoRoom else
-    when ltb (length settings) settings_layout.size then readiness.Rejected outcome.NoRoom else
+    when ltb (length store) max_packet then Err outcome.NoRoom else
+    when ltb (length settings) settings_layout.size then Err outcome.NoRoom else
     when sound s then
-    (when settings_layout.sound settings then readiness.Ready else readiness.Rejected outcome.NotSound)
-    else readiness.Rejected outcome.NotSound
+    (when settings_layout.sound settings then Ok tt else Err outcome.NotSound)
+    else Err outcome.NotSound
 
 -- what a transaction comes to, by its command, on a state that can take it (manual 2.2)
 abbrev pub judged_on : State → List ℕ → List ℕ → Transaction → After Judged
@@ -43,8 +45,8 @@ applied s j = after (with (with_account s (counted j.result s.account)) j.result
 
 -- 14 where the account is full, before anything reads the command (manual 2.2, 8.6)
 unfoldable pub by_readiness : Readiness → State → List ℕ → List ℕ → Transaction → After Transacted
-by_readiness (readiness.Rejected o) s store settings t = after (with s o) store settings
-by_readiness readiness.Ready s store settings t =
+by_readiness (Err o) s store settings t = after (with s o) store settings
+by_readiness (Ok tt) s store settings t =
     when eqb s.account.beside.total limit then after (with s outcome.Full) store settings else
     applied s (judged_on s store settings t)
 

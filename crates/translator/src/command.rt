@@ -2,17 +2,16 @@
 ghost use Rattle.std.specs.Prelude.{◌≡◌, ◌≤◌, length};
 ghost use Rattle.packet.specs.Store.{max_packet};
 ghost use Rattle.prelude.specs.After.{after};
-ghost use Rattle.record.specs.Transaction.{transaction};
 ghost use Rattle.settings.specs.Enable.{answered};
-ghost use Rattle.state.specs.State.{max_maximum};
 ghost use Rattle.translator.specs.Command.{commands, class_in, has_both_flags};
 ghost use Rattle.translator.specs.Judge.{by_class, enable, unknown};
-ghost use Rattle.translator.specs.Rows.{most};
 
 use crate::fragment::fragment;
 use crate::judged::{Judged, ends_in};
+use crate::numbers::Numbers;
 use outcome::Outcome;
-use settings::Enabled;
+use record::Transaction;
+use state::Row;
 
 #[derive(Clone, Copy)]
 pub(crate) enum Class {
@@ -65,59 +64,51 @@ const COMMANDS: [Command; COMMAND_COUNT] = [
     },
 ];
 
+// The flags of a command, F and L.
+const FIRST: u8 = 0x80;
+
+const LAST: u8 = 0x40;
+
 // Judges a transaction by its command, and leaves in the store and the settings what it writes there.
 pub(crate) fn judge(
-    maximum: u64,
-    open_fragments: u64,
-    open_bytes: u64,
+    numbers: Numbers,
     store: &mut [u8],
     settings: &mut [u8],
-    command: u8,
-    bytes: &[u8],
-    link_up: bool,
+    transaction: Transaction<'_>,
 ) -> Judged
-    requires maximum_le_max_maximum { maximum ≤ max_maximum }
-    requires open_bytes_le_most { open_bytes ≤ most }
-    requires max_packet_in_bounds { max_packet ≤ length store.old }
-    ensures { after result store.new settings.new ≡ by_class (class_in commands command) maximum open_fragments open_bytes (transaction command bytes.now link_up) store.old settings.old }
+    requires { max_packet ≤ length store.old }
+    ensures { after result store.new settings.new ≡ by_class (class_in commands transaction.entry.command) numbers.maximum numbers.open_fragments numbers.open_bytes transaction.entry store.old settings.old }
 {
-    match class_of(command) {
+    match class_of(transaction.command) {
         Class::Fragment { first, last } => fragment(
-            maximum,
-            open_fragments,
-            open_bytes,
+            numbers,
             store,
-            bytes,
+            transaction.bytes,
             first,
             last,
-            link_up,
+            transaction.link_up,
         ),
-        Class::Enable => enable(open_fragments, settings, bytes),
-        Class::Unknown => unknown(open_fragments, command),
+        Class::Enable => enable(numbers.open_fragments, settings, transaction.bytes),
+        Class::Unknown => unknown(numbers.open_fragments, transaction.command),
     }
 }
 
 fn class_of(command: u8) -> Class
     ensures { result ≡ class_in commands command }
 {
-    let mut i: usize = 0;
-    while i < COMMAND_COUNT {
-        let entry = COMMANDS[i];
-        if command == entry.byte {
-            return entry.class;
-        }
-        i += 1;
+    match COMMANDS.iter().find(|entry| command == entry.byte) {
+        Some(entry) => entry.class,
+        None => Class::Unknown,
     }
-    Class::Unknown
 }
 
 // A Receive Enable flushes the open packet, whatever it is answered.
 fn enable(open_fragments: u64, settings: &mut [u8], bytes: &[u8]) -> Judged
     ensures { answered result settings.new ≡ enable open_fragments bytes.now settings.old }
 {
-    let ends = ends_in(state::FLUSHED, open_fragments);
+    let ends = ends_in(Row::Flushed, open_fragments);
     let enabled = settings::receive_enable(settings, bytes);
-    let Enabled::Refused(refusal) = enabled else {
+    let Err(refusal) = enabled else {
         return Judged {
             outcome: Outcome::Taken,
             ends,
@@ -138,13 +129,13 @@ fn unknown(open_fragments: u64, command: u8) -> Judged
     if has_both_flags(command) {
         return Judged {
             outcome: Outcome::Unknown,
-            ends: ends_in(state::FLUSHED, open_fragments),
+            ends: ends_in(Row::Flushed, open_fragments),
             bytes: 0,
         };
     }
     Judged {
         outcome: Outcome::Unknown,
-        ends: state::NO_ROW,
+        ends: None,
         bytes: 0,
     }
 }
@@ -152,8 +143,5 @@ fn unknown(open_fragments: u64, command: u8) -> Judged
 fn has_both_flags(command: u8) -> bool
     ensures { result ≡ has_both_flags command }
 {
-    if command / 128 % 2 != 1 {
-        return false;
-    }
-    command / 64 % 2 == 1
+    command & FIRST != 0 && command & LAST != 0
 }

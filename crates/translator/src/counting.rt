@@ -1,20 +1,21 @@
 // Counts a transaction in the rows of the grid. No public operation changes an account by a row or an
 // outcome that its caller names.
 ghost use Rattle.std.specs.Prelude.{◌≡◌};
+ghost use Rattle.state.specs.Account.{row_number};
 ghost use Rattle.translator.specs.Rows.{CountFits, Room, in_rows, rows_after};
 
 use crate::tally::Tally;
-use state::{Beside, COLUMNS, ROW_COUNT};
+use state::{Beside, COLUMNS, ROW_COUNT, Row};
 
 // The rows after the transaction.
 pub(crate) fn rows_after(
     rows: [[u64; COLUMNS]; ROW_COUNT],
-    ends: usize,
+    ends: Option<Row>,
     beside: Beside,
     tally: Tally,
 ) -> [[u64; COLUMNS]; ROW_COUNT]
-    requires { CountFits ends beside tally rows }
-    ensures { result ≡ rows_after ends beside tally rows }
+    requires { CountFits (row_number ends) beside tally rows }
+    ensures { result ≡ rows_after (row_number ends) beside tally rows }
 {
     let mut rows = rows;
     count(&mut rows, ends, beside, tally);
@@ -25,12 +26,12 @@ pub(crate) fn rows_after(
 // that was open ends.
 pub(crate) fn count(
     rows: &mut [[u64; COLUMNS]; ROW_COUNT],
-    ends: usize,
+    ends: Option<Row>,
     beside: Beside,
     tally: Tally,
 )
-    requires { CountFits ends beside tally rows.old }
-    ensures { rows.new ≡ rows_after ends beside tally rows.old }
+    requires { CountFits (row_number ends) beside tally rows.old }
+    ensures { rows.new ≡ rows_after (row_number ends) beside tally rows.old }
 {
     add_to(
         rows,
@@ -44,19 +45,20 @@ pub(crate) fn count(
 
 fn add_to(
     rows: &mut [[u64; COLUMNS]; ROW_COUNT],
-    row: usize,
+    row: Option<Row>,
     packets: u64,
     fragments: u64,
     bytes: u64,
 )
-    requires { Room row packets fragments bytes rows.old }
-    ensures { rows.new ≡ in_rows rows.old row packets fragments bytes }
+    requires { Room (row_number row) packets fragments bytes rows.old }
+    ensures { rows.new ≡ in_rows rows.old (row_number row) packets fragments bytes }
 {
-    if ROW_COUNT <= row {
+    let Some(row) = row else {
         return;
-    }
-    let cells = rows[row];
-    rows[row] = [
+    };
+    let at = row as usize;
+    let cells = rows[at];
+    rows[at] = [
         cells[state::PACKETS] + packets,
         cells[state::FRAGMENTS] + fragments,
         cells[state::BYTES] + bytes,

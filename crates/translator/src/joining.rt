@@ -10,6 +10,8 @@ use outcome::{Cause, Outcome};
 // Joins a fragment to a packet of `at` bytes, which may be too long already, and completes the packet
 // where it is a Last. One test of the new total tells whether the fragment is written and whether a
 // Last finds its packet too long.
+// The room of the store and the bounds stand in the contract (no plainer in a type: a store may be longer,
+// and what lies behind 1536 is promised too; `at` and the fragment come from two places).
 pub(crate) fn join(store: &mut [u8], at: u64, fragment: &[u8], last: bool, link_up: bool) -> Outcome
     requires at_le_most { at ≤ most }
     requires fragment_len_bound { length fragment.now ≤ max_maximum }

@@ -7,6 +7,7 @@ mod counting;
 mod fragment;
 mod joining;
 mod judged;
+mod numbers;
 mod readiness;
 mod records;
 mod step;
@@ -14,11 +15,11 @@ mod tally;
 
 ghost use Rattle.std.specs.Prelude.{◌≡◌};
 ghost use Rattle.prelude.specs.After.{after};
-ghost use Rattle.record.specs.Transaction.{transaction};
 ghost use Rattle.translator.specs.Transact.{transacted};
 
 use outcome::Outcome;
-pub use records::{Replay, Replayed, account_of, replay_records, start_replay};
+use record::Transaction;
+pub use records::{Replay, Stopped};
 use state::{Account, State};
 
 // A state after a transaction, and what it was answered.
@@ -28,38 +29,31 @@ pub struct Transacted {
     pub outcome: Outcome,
 }
 
-// Takes one transaction: a command byte, its data and whether the link is up. Whatever is handed
-// in, the answer is an outcome; NoRoom, NotSound and Full change nothing.
+// Takes one transaction. Whatever is handed in, the answer is an outcome; NoRoom, NotSound and Full
+// change nothing.
+// The two buffers come apart (no plainer in one struct: C lends two, and most steps take one of them).
 pub fn transact(
     state: State,
     store: &mut [u8],
     settings: &mut [u8],
-    command: u8,
-    bytes: &[u8],
-    link_up: bool,
+    transaction: Transaction<'_>,
 ) -> Transacted
-    ensures { after result store.new settings.new ≡ transacted state store.old settings.old (transaction command bytes.now link_up) }
+    ensures { after result store.new settings.new ≡ transacted state store.old settings.old transaction.entry }
 {
-    let account = state.account;
-    let grid = account.grid;
-    let beside = account.beside;
+    let grid = state.account.grid;
+    let beside = state.account.beside;
     let maximum = state.maximum;
     let readiness = readiness::readiness_of(&grid, beside, maximum, store, settings);
-    let step = step::step_of(
-        readiness, beside, maximum, store, settings, command, bytes, link_up,
-    );
-    let tally = step.tally;
-    let after = step.beside;
-    let outcome = step.outcome;
-    let rows = counting::rows_after(state::rows_of(grid), step.ends, beside, tally);
+    let step = step::step_of(readiness, beside, maximum, store, settings, transaction);
+    let rows = counting::rows_after(state::rows_of(grid), step.ends, beside, step.tally);
     Transacted {
         state: State {
             account: Account {
                 grid: state::flat_of(rows),
-                beside: after,
+                beside: step.beside,
             },
             maximum,
         },
-        outcome,
+        outcome: step.outcome,
     }
 }

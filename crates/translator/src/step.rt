@@ -1,19 +1,19 @@
 // What a transaction does, decided on the numbers beside the grid.
 ghost use Rattle.std.specs.Prelude.{◌≡◌};
-ghost use Rattle.record.specs.Transaction.{transaction};
 ghost use Rattle.translator.specs.Held.{IsReadiness, Steps, rejected_step};
 
-use crate::readiness::Readiness;
+use crate::numbers::Numbers;
 use crate::tally::Tally;
 use crate::{command, tally};
 use outcome::Outcome;
-use state::Beside;
+use record::Transaction;
+use state::{Beside, Row};
 
 #[derive(Clone, Copy)]
 pub(crate) struct Step {
     pub outcome: Outcome,
-    // The row in which the packet that was open ends, or NO_ROW.
-    pub ends: usize,
+    // The row in which the packet that was open ends, if one does.
+    pub ends: Option<Row>,
     // What is added to the grid: nothing where the transaction is rejected.
     pub tally: Tally,
     // The numbers beside the grid afterwards.
@@ -21,39 +21,33 @@ pub(crate) struct Step {
 }
 
 // Takes a transaction on a state whose readiness is known, but for counting it in the grid.
+// The numbers beside the grid and the maximum come apart: a grid is counted as rows, by value, in a local.
 pub(crate) fn step_of(
-    readiness: Readiness,
+    readiness: Result<(), Outcome>,
     beside: Beside,
     maximum: u64,
     store: &mut [u8],
     settings: &mut [u8],
-    command: u8,
-    bytes: &[u8],
-    link_up: bool,
+    transaction: Transaction<'_>,
 ) -> Step
     requires { IsReadiness readiness beside maximum store.old settings.old }
-    ensures { Steps readiness beside maximum store.old settings.old (transaction command bytes.now link_up) result store.new settings.new }
+    ensures { Steps readiness beside maximum store.old settings.old transaction.entry result store.new settings.new }
 {
-    if let Readiness::Rejected(outcome) = readiness {
+    if let Err(outcome) = readiness {
         return rejected(outcome, beside);
     }
     if beside.total == state::LIMIT {
         return rejected(Outcome::Full, beside);
     }
-    let judged = command::judge(
+    let numbers = Numbers {
         maximum,
-        beside.open_fragments,
-        beside.open_bytes,
-        store,
-        settings,
-        command,
-        bytes,
-        link_up,
-    );
-    let outcome = judged.outcome;
+        open_fragments: beside.open_fragments,
+        open_bytes: beside.open_bytes,
+    };
+    let judged = command::judge(numbers, store, settings, transaction);
     let tally = tally::tally_of(judged, beside);
     Step {
-        outcome,
+        outcome: judged.outcome,
         ends: judged.ends,
         tally,
         beside: tally::beside_after(beside, tally),
@@ -66,7 +60,7 @@ fn rejected(outcome: Outcome, beside: Beside) -> Step
 {
     Step {
         outcome,
-        ends: state::NO_ROW,
+        ends: None,
         tally: tally::NOTHING,
         beside,
     }

@@ -1,19 +1,19 @@
 // What a transaction adds to an account, by its outcome.
-ghost use Rattle.std.specs.Prelude.{◌≡◌, ◌≤◌};
-ghost use Rattle.state.specs.Account.{limit, no_row};
+ghost use Rattle.std.specs.Prelude.{None, Some, ◌≡◌, ◌≤◌};
+ghost use Rattle.state.specs.Account.{limit, row_number};
 ghost use Rattle.state.specs.State.{max_maximum};
 ghost use Rattle.translator.specs.Counting.{beside_after, cause_tally, judged_tally, left_open, tally, tally_of};
 ghost use Rattle.translator.specs.Rows.{BesideFits, TallyFits, most};
 
 use crate::judged::Judged;
 use outcome::{Cause, Outcome};
-use state::{Beside, ROW_COUNT};
+use state::{Beside, Row};
 
 // What a transaction adds to an account, and the packet that is open then.
 #[derive(Clone, Copy)]
 pub(crate) struct Tally {
-    // The row of its fate, or NO_ROW, and what is added there.
-    pub row: usize,
+    // The row of its fate, if it has one, and what is added there.
+    pub row: Option<Row>,
     pub added_packets: u64,
     pub added_fragments: u64,
     pub added_bytes: u64,
@@ -26,7 +26,7 @@ pub(crate) struct Tally {
 }
 
 pub(crate) const NOTHING: Tally = Tally {
-    row: state::NO_ROW,
+    row: None,
     added_packets: 0,
     added_fragments: 0,
     added_bytes: 0,
@@ -44,11 +44,11 @@ pub(crate) fn tally_of(judged: Judged, beside: Beside) -> Tally
 {
     let fragments = left_open(judged.ends, beside.open_fragments);
     let bytes = left_open(judged.ends, beside.open_bytes);
-    let outcome = judged.outcome;
-    outcome_tally(outcome, fragments, bytes, judged.bytes)
+    outcome_tally(judged.outcome, fragments, bytes, judged.bytes)
 }
 
-// What an outcome adds, behind the fragments and bytes that are left open.
+// What an outcome adds, behind the fragments and bytes that are left open. Three numbers with a bound each
+// (no plainer in a struct: `whole` is handed one fragment more than the bound).
 fn outcome_tally(outcome: Outcome, fragments: u64, bytes: u64, size: u64) -> Tally
     requires fragments_le_limit { fragments ≤ limit }
     requires bytes_le_most { bytes ≤ most }
@@ -57,7 +57,7 @@ fn outcome_tally(outcome: Outcome, fragments: u64, bytes: u64, size: u64) -> Tal
 {
     match outcome {
         Outcome::Joined => left(fragments + 1, bytes + size),
-        Outcome::Sent(_) => whole(state::SENT, fragments + 1, bytes + size),
+        Outcome::Sent(_) => whole(Row::Sent, fragments + 1, bytes + size),
         Outcome::Discarded(cause) => cause_tally(cause, fragments, bytes, size),
         Outcome::Unknown => commanded(fragments, bytes, 0, 1),
         Outcome::Refused(_) => commanded(fragments, bytes, 0, 1),
@@ -75,62 +75,66 @@ fn cause_tally(cause: Cause, fragments: u64, bytes: u64, size: u64) -> Tally
     ensures { result ≡ cause_tally cause fragments bytes size }
 {
     match cause {
-        Cause::Aborted => alone(state::ABORTED, fragments, bytes, size),
-        Cause::BadLength => alone(state::BADLENGTH, fragments, bytes, size),
-        Cause::Over => whole(state::OVER, fragments + 1, bytes + size),
-        Cause::Short => whole(state::SHORT, fragments + 1, bytes + size),
-        Cause::LinkDown => whole(state::LINKDOWN, fragments + 1, bytes + size),
+        Cause::Aborted => alone(Row::Aborted, fragments, bytes, size),
+        Cause::BadLength => alone(Row::BadLength, fragments, bytes, size),
+        Cause::Over => whole(Row::Over, fragments + 1, bytes + size),
+        Cause::Short => whole(Row::Short, fragments + 1, bytes + size),
+        Cause::LinkDown => whole(Row::LinkDown, fragments + 1, bytes + size),
     }
 }
 
 // A whole packet in the row of its fate.
-fn whole(row: usize, fragments: u64, bytes: u64) -> Tally
-    ensures { result ≡ tally row 1 fragments bytes 0 0 0 0 }
+fn whole(row: Row, fragments: u64, bytes: u64) -> Tally
+    ensures { result ≡ tally (Some row) 1 fragments bytes 0 0 0 0 }
 {
-    let mut tally = NOTHING;
-    tally.row = row;
-    tally.added_packets = 1;
-    tally.added_fragments = fragments;
-    tally.added_bytes = bytes;
-    tally
+    Tally {
+        row: Some(row),
+        added_packets: 1,
+        added_fragments: fragments,
+        added_bytes: bytes,
+        ..NOTHING
+    }
 }
 
 // A fragment of no packet.
-fn alone(row: usize, fragments: u64, bytes: u64, size: u64) -> Tally
-    ensures { result ≡ tally row 0 1 size fragments bytes 0 0 }
+fn alone(row: Row, fragments: u64, bytes: u64, size: u64) -> Tally
+    ensures { result ≡ tally (Some row) 0 1 size fragments bytes 0 0 }
 {
-    let mut tally = left(fragments, bytes);
-    tally.row = row;
-    tally.added_fragments = 1;
-    tally.added_bytes = size;
-    tally
+    Tally {
+        row: Some(row),
+        added_fragments: 1,
+        added_bytes: size,
+        ..left(fragments, bytes)
+    }
 }
 
 // A command.
 fn commanded(fragments: u64, bytes: u64, taken: u64, refused: u64) -> Tally
-    ensures { result ≡ tally no_row 0 0 0 fragments bytes taken refused }
+    ensures { result ≡ tally None 0 0 0 fragments bytes taken refused }
 {
-    let mut tally = left(fragments, bytes);
-    tally.added_taken = taken;
-    tally.added_refused = refused;
-    tally
+    Tally {
+        added_taken: taken,
+        added_refused: refused,
+        ..left(fragments, bytes)
+    }
 }
 
 // Nothing added, and a packet left open.
 fn left(fragments: u64, bytes: u64) -> Tally
-    ensures { result ≡ tally no_row 0 0 0 fragments bytes 0 0 }
+    ensures { result ≡ tally None 0 0 0 fragments bytes 0 0 }
 {
-    let mut tally = NOTHING;
-    tally.open_fragments = fragments;
-    tally.open_bytes = bytes;
-    tally
+    Tally {
+        open_fragments: fragments,
+        open_bytes: bytes,
+        ..NOTHING
+    }
 }
 
 // A number of the open packet: 0 where the packet ends in a row.
-fn left_open(ends: usize, number: u64) -> u64
-    ensures { result ≡ left_open ends number }
+fn left_open(ends: Option<Row>, number: u64) -> u64
+    ensures { result ≡ left_open (row_number ends) number }
 {
-    if ends < ROW_COUNT {
+    if ends.is_some() {
         return 0;
     }
     number

@@ -7,7 +7,7 @@ use Rattle.setlink.specs.declared.Media.{Media}
 use Rattle.setlink.specs.Decide.{decided, fresh_word}
 use Rattle.status.specs.declared.Fields.{Fields}
 use Rattle.status.specs.Judged.{number_of as status_number_of, bad_field_number}
-use Rattle.status.specs.Block.{written, parsed}
+use Rattle.status.specs.Block.{written, block_back, parsed, fields_back}
 use Rattle.settings.specs.Enable.{freshened}
 use Rattle.address.specs.declared.Address.TheVariants.{Mac, Ipv4}
 use Rattle.address.specs.Address.{in_force}
@@ -157,9 +157,9 @@ Holds (addresses settings flash mac ipv4) =
     × ((in_force Ipv4 (record { ref_ptr = (0, 0); now = settings }) (record { ref_ptr = (1, 0); now = flash })).bytes ≡ ipv4)
 Holds (link word host_present media expected) = decided fresh_word word host_present media ≡ expected
 Holds (writes fields answer field block) =
-    ◌≡◌ {A = ℕ × ℕ × List ℕ} (status_number_of (written fields).answer, bad_field_number (written fields).answer, (written fields).block) (answer, field, block)
+    ◌≡◌ {A = ℕ × ℕ × List ℕ} (status_number_of (written fields), bad_field_number (written fields), block_back fields) (answer, field, block)
 Holds (reads block answer field fields) =
-    ◌≡◌ {A = ℕ × ℕ × Fields} (status_number_of (parsed block).answer, bad_field_number (parsed block).answer, (parsed block).fields) (answer, field, fields)
+    ◌≡◌ {A = ℕ × ℕ × Fields} (status_number_of (parsed block), bad_field_number (parsed block), fields_back block) (answer, field, fields)
 Holds (journal transactions bytes) =
     (records_of transactions ≡ bytes) × (records_in bytes ≡ record { transactions = transactions; used = length bytes; bad_link = false })
 

@@ -1,19 +1,16 @@
-use Rattle.std.proofs.Common.{ℕ, ◌≡◌, ◌++◌, take, drop, sym, ap, ◌∙◌, rules, arith}
-use mathlib.Core.List.{append-nil}
+use Rattle.std.proofs.Common.{◌≡◌, ◌++◌, ◌∙◌, ℕ, ap, take, arith, flat_map}
+use Rattle.state.specs.declared.TheConstants.{ROWS}
 use Rattle.state.specs.Account.{row_count}
-use Rattle.printout.specs.Printout.{fates, fate_lines}
-use Rattle.printout.proofs.Fates.{fate-on}
+use Rattle.printout.specs.Lines.{cut, row_line}
+use Rattle.printout.specs.Printout.{heading, fate_lines}
+use Rattle.printout.proofs.Lines.{row-put}
 use Rattle.printout.proofs.put_fates.Goals as goal
 
 pub loop-row-preserved : goal.loop-row-preserved
-loop-row-preserved c =
-    (omega arith, omega arith, omega arith, fate-on c.args.grid c.loop-row.row (search rules) c.put_fate-end.ensures c.loop-row.invariant.3)
+loop-row-preserved c = row-put c.args.text.now c.args.grid c.loop-row.row-index c.loop-row-test.true c.loop-row.invariant c.name_of.ensures c.cells_of.ensures c.put_line.ensures
 
 pub returns : goal.returns
 unfolding fate_lines
 returns c =
-    let nine : c.loop-row.row ≡ row_count = omega arith in
-    record {
-      bounded = omega arith;
-      content = sym (append-nil (take c.loop-row.end c.loop-row.text)) ∙ (ap (λ (n : ℕ). take c.loop-row.end c.loop-row.text ++ fate_lines (drop n fates) c.args.grid) (sym nine) ∙ c.loop-row.invariant.3);
-    }
+    let nine : c.loop-row.row-index ≡ row_count = omega arith in
+    c.loop-row.invariant ∙ ap (λ (n : ℕ). cut (c.args.text.now ++ (heading ++ flat_map (row_line c.args.grid) (take n ROWS)))) nine

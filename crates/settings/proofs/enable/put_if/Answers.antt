@@ -1,6 +1,6 @@
 use Rattle.std.proofs.Common.{◌∙◌, sym, arith}
+use Rattle.prelude.proofs.Lists.{copied-over-part}
 use Rattle.prelude.proofs.Tests.{if-true}
-use Rattle.settings.proofs.Writes.{copied-over-part}
 use Rattle.settings.proofs.enable.put_if.Goals as goal
 
 pub returns-then-is_given : goal.returns-then-is_given

@@ -4,6 +4,3 @@ use Rattle.settings.proofs.enable.receive_enable.Goals as goal
 
 pub short_form-requires-clause-kept_at_bound : goal.short_form-requires-clause-kept_at_bound
 short_form-requires-clause-kept_at_bound c = (sound-tells _ (sym c.is_sound.ensures ∙ c.if-not-is_sound.false)).kept-is-bits
-
-pub long_form-requires-clause-kept_at_bound : goal.long_form-requires-clause-kept_at_bound
-long_form-requires-clause-kept_at_bound c = (sound-tells _ (sym c.is_sound.ensures ∙ c.if-not-is_sound.false)).kept-is-bits

@@ -8,11 +8,11 @@ use Rattle.state.proofs.sound.are_rows_sound.Goals as goal
 
 pub loop-row-init : goal.loop-row-init
 unfolding rows_sound all_fragments
-loop-row-init c = (search tests, refl, omega arith)
+loop-row-init c = (refl, omega arith)
 
 pub returns-then-left-fragments : goal.returns-then-left-fragments
 returns-then-left-fragments c =
-    sym (and-false _ _ (and-false _ _ (too_many _ _ c.loop-row.row c.loop-row.left c.loop-row.invariant.2 (omega arith) c.if-left-fragments.true)))
+    sym (and-false _ _ (and-false _ _ (too_many _ _ c.loop-row.row c.loop-row.left c.loop-row.invariant.1 (omega arith) c.if-left-fragments.true)))
 
 -- the call tests the row that the loop is at
 pub returns-then-not-is_row_sound : goal.returns-then-not-is_row_sound
@@ -25,7 +25,7 @@ pub loop-row-preserved : goal.loop-row-preserved
 loop-row-preserved c =
     let row : _ = c.loop-row.row in
     let tests-row : row_sound_at row c.args.grid.now ≡ c.is_row_sound.result = sym (rw (add-zero (row * 3)) at c.is_row_sound.ensures) in
-    (search tests, rows-sound-next row _ c.loop-row.invariant.1 (tests-row ∙ c.if-not-is_row_sound.false), omega (arith, all-fragments-next row c.args.grid.now))
+    (rows-sound-next row _ c.loop-row.invariant.0 (tests-row ∙ c.if-not-is_row_sound.false), omega (arith, all-fragments-next row c.args.grid.now))
 
 pub returns-then-grid-ne0 : goal.returns-then-grid-ne0
 unfolding singles_sound
@@ -44,7 +44,7 @@ unfolding singles_sound
 returns c =
     let e : c.loop-row.row ≡ badlength = omega arith in
     let all-are-sound : rows_sound row_count c.args.grid.now ≡ true =
-    rows-sound-next badlength _ (rw e at c.loop-row.invariant.1) (empty-row-sound _ _ _ c.if-grid-ne0-2.false c.if-grid-ne0-3.false) in
+    rows-sound-next badlength _ (rw e at c.loop-row.invariant.0) (empty-row-sound _ _ _ c.if-grid-ne0-2.false c.if-grid-ne0-3.false) in
     let singles-are-sound : singles_sound c.args.grid.now ≡ true = search tests in
-    last-is-left _ _ c.loop-row.row c.loop-row.left c.loop-row.invariant.2 e
+    last-is-left _ _ c.loop-row.row c.loop-row.left c.loop-row.invariant.1 e
     ∙ sym (if-true _ _ _ all-are-sound ∙ if-true _ _ _ singles-are-sound)

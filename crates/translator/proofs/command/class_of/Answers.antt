@@ -1,15 +1,17 @@
-use Rattle.std.proofs.Common.{◌≡◌, ◌∙◌, sym, arith}
+use Rattle.std.proofs.Common.{rules}
+use Rattle.std.proofs.lemmas.Iterator.{YieldsList-from_slice}
+use Rattle.std.proofs.lemmas.Iterator.Search.{find_from_yields_List}
 use Rattle.prelude.proofs.Tests.{tests}
-use Rattle.translator.specs.Command.{commands, class_in}
-use Rattle.translator.proofs.Commands.{class-here, class-after}
+use Rattle.translator.specs.Command.{commands}
+use Rattle.translator.proofs.Commands.{has_byte, class-found}
 use Rattle.translator.proofs.command.class_of.Goals as goal
 
-pub returns-then-command-entry : goal.returns-then-command-entry
-returns-then-command-entry c = sym (class-here commands c.loop-i.i _ (search tests) c.if-command-entry.true) ∙ c.loop-i.invariant.1
+pub returns-in-Some : goal.returns-in-Some
+returns-in-Some c =
+    let e : _ = find_from_yields_List (has_byte c.args.command) _ _ c.find.result c.find.ensures.ran (YieldsList-from_slice commands cc) (λ x b q k. search (rules, tests)) in
+    rw (class-found commands c.args.command, ← e, c.in-Some.is)
 
-pub loop-i-preserved : goal.loop-i-preserved
-loop-i-preserved c = (search tests, sym (class-after commands c.loop-i.i _ (search tests) c.if-command-entry.false) ∙ c.loop-i.invariant.1)
-
-pub returns : goal.returns
-unfolding class_in
-returns c = let e : c.loop-i.i ≡ 5 = omega arith in rw e at c.loop-i.invariant.1
+pub returns-in-None : goal.returns-in-None
+returns-in-None c =
+    let e : _ = find_from_yields_List (has_byte c.args.command) _ _ c.find.result c.find.ensures.ran (YieldsList-from_slice commands cc) (λ x b q k. search (rules, tests)) in
+    rw (class-found commands c.args.command, ← e, c.in-None.is)

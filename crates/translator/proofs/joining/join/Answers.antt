@@ -1,6 +1,6 @@
 use Rattle.std.proofs.Common.{◌∙◌, ap, arith}
-use Rattle.settings.proofs.Writes.{copied-over-part}
 use Rattle.outcome.specs.declared.Outcome.TheVariants as outcome
+use Rattle.prelude.proofs.Lists.{copied-over-part}
 use Rattle.prelude.proofs.Tests.{tests}
 use Rattle.translator.specs.Joining.{stored, completed, joined}
 use Rattle.translator.proofs.joining.join.Goals as goal

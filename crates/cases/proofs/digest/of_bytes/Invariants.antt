@@ -1,9 +1,0 @@
--- The invariant: the digest is below the modulus, so that it fits. The measure is what is left of the bytes.
-use Rattle.std.proofs.Common.{◌-◌, ◌<◌, length}
-use Rattle.cases.proofs.digest.of_bytes.Given as goal
-
-abbrev pub invariant-loop-i : goal.invariant-loop-i
-invariant-loop-i l = l.h < 4294967291
-
-abbrev pub decreases-loop-i : goal.decreases-loop-i
-decreases-loop-i l = length l.bytes - l.i

@@ -1,0 +1,54 @@
+// A case, as it stands in a line.
+use crate::field::Field;
+use hex::FromHexError;
+use std::alloc::{AllocError, Global};
+use thiserror::Error;
+
+// Why a line is not answered.
+#[derive(Debug, Drop, Error)]
+pub(crate) enum CaseError {
+    #[error("not a case")]
+    NotACase,
+    #[error("out of memory")]
+    OutOfMemory(#[from(alloc)] AllocError),
+}
+
+impl From<FromHexError> for CaseError {
+    fn from(error: FromHexError) -> CaseError {
+        match error {
+            FromHexError::OutOfMemory => CaseError::OutOfMemory(AllocError),
+            _ => CaseError::NotACase,
+        }
+    }
+}
+
+// The text that answers a case.
+pub(crate) type Answer = Result<String, CaseError>;
+
+// An operation's name and its fields, and the allocator for its answer.
+#[derive(Drop)]
+pub(crate) struct Case<'a> {
+    pub(crate) name: &'a [u8],
+    fields: Vec<Field>,
+    pub(crate) alloc: Global,
+}
+
+impl<'a> Case<'a> {
+    pub(crate) fn decode(alloc: Global, line: &'a [u8]) -> Result<Case<'a>, CaseError> {
+        let mut words = line.split(|character| *character == b' ');
+        let name = words.next().unwrap_or_default();
+        let fields = words
+            .map(|word| Field::decode(alloc, word))
+            .try_collect(alloc)?;
+        Ok(Case {
+            name,
+            fields,
+            alloc,
+        })
+    }
+
+    // The fields, where there are N.
+    pub(crate) fn fields<const N: usize>(&self) -> Result<&[Field; N], CaseError> {
+        <&[Field; N]>::try_from(&self.fields).map_err(|_| CaseError::NotACase)
+    }
+}

@@ -1,0 +1,11 @@
+use Rattle.std.proofs.Common.{refl, sym, ◌∙◌}
+use Rattle.translator.proofs.HeldRows.{step-takes}
+use Rattle.translator.proofs.Readied.{ready-fits}
+use Rattle.translator.proofs.records.Held.take.Goals as goal
+
+pub count-requires : goal.count-requires
+count-requires c =
+    c.step_of-step.ensures.fits _ (λ ready. rw c.requires.placed (ready-fits _ _ _ (sym c.requires.readiness_value ∙ ready) refl).rows)
+
+pub returns : goal.returns
+returns c = step-takes c.args.self.now _ _ _ c.requires.placed _ _ _ _ _ c.requires.readiness_value c.step_of-step.ensures c.count.ensures
