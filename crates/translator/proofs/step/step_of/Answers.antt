@@ -8,7 +8,7 @@ use Rattle.translator.specs.declared.judged.Judged.{Judged}
 use Rattle.translator.specs.Transact.{readiness_of, judged_on}
 use Rattle.translator.proofs.Fits.{tally-fits}
 use Rattle.translator.proofs.HeldRows.{rejected-steps, counted-steps}
-use Rattle.translator.proofs.Readied.{rejected-is, full_is, ready-maximum, ready-room, ready-fits, judged-few}
+use Rattle.translator.proofs.Readied.{rejected-is, full_is, ready-maximum, ready-fits, judged-few}
 use Rattle.translator.proofs.step.step_of.Goals as goal
 
 -- what is judged counts few bytes
@@ -28,9 +28,6 @@ pub invariant_of-numbers : goal.invariant_of-numbers
 invariant_of-numbers c =
     let ready : _ = sym c.requires.known ∙ c.in_default.is in
     record { maximum_le_max_maximum = ready-maximum _ _ _ ready; open_bytes_le_most = (ready-fits _ _ _ ready c.requires.formed).beside.held_bytes }
-
-pub judge-judged-requires : goal.judge-judged-requires
-judge-judged-requires c = ready-room _ _ _ (sym c.requires.known ∙ c.in_default.is)
 
 pub tally_of-tally-requires : goal.tally_of-tally-requires
 tally_of-tally-requires c =
