@@ -8,14 +8,14 @@ use Rattle.setlink.specs.declared.Media.TheVariants.{Copper, Fibre}
 use Rattle.setlink.specs.declared.Pair.{Pair}
 use Rattle.setlink.specs.declared.UnknownMedia.{UnknownMedia}
 
--- how this interface numbers the media (manual 7.2)
+-- the media by their numbers (manual 7.2)
 abbrev pub copper : ℕ
 copper = 0
 
 abbrev pub fibre : ℕ
 fibre = 1
 
--- another number is no medium (manual 7.2, 7.3)
+-- the medium that a number names; another number names none (manual 7.2, 7.3)
 unfoldable pub media_of : ℕ → Result Media UnknownMedia
 media_of number =
     when eqb number copper then Ok Copper else

@@ -20,6 +20,7 @@ pub struct UnknownMedia {
     pub number: u32,
 }
 
+// The medium that a number names, as C does.
 impl TryFrom<u32> for Media {
     type Error = UnknownMedia;
 
