@@ -1,15 +1,18 @@
--- The code of a refusal is not the code of none.
+-- The code of a refusal is no code of none.
 -- Assumes nothing.
-use mathlib.Core.Bool.{false}
-use mathlib.Core.Path.{◌≡◌, refl}
-use lib.Dec.{eqb}
+use Prim.Native.Nat.{◌<◌}
+use native.Mathlib.Omega.{arith}
+use Rattle.prelude.proofs.Tests.{tests}
 use Rattle.setlink.specs.declared.Reason.{Reason}
 use Rattle.setlink.specs.declared.Reason.TheVariants.{InvalidParameter, HostConflict, MediaConflict, ParameterConflict, SpeedConflict}
 use Rattle.setlink.specs.Decide.{no_reason, code_of}
 
-pub refusal-has-code : (why : Reason) → eqb (code_of why) no_reason ≡ false
-refusal-has-code InvalidParameter = refl
-refusal-has-code HostConflict = refl
-refusal-has-code MediaConflict = refl
-refusal-has-code ParameterConflict = refl
-refusal-has-code SpeedConflict = refl
+pub refusal-has-code : (why : Reason) → no_reason < code_of why
+refusal-has-code InvalidParameter = omega arith
+refusal-has-code HostConflict = omega arith
+refusal-has-code MediaConflict = omega arith
+refusal-has-code ParameterConflict = omega arith
+refusal-has-code SpeedConflict = omega arith
+
+-- what closes a return where a check may have refused
+pub ruleset codes = (tests, refusal-has-code)

@@ -1,42 +1,29 @@
--- Check 5 can be left out on copper: a word that passes the earlier checks selects a pair that copper takes.
+-- Check 5 can be left out on copper: a word that passes the earlier checks selects a pair that copper takes. Fibre keeps it.
 -- Assumes nothing.
 use Prim.Native.Nat.{ℕ, ◌+◌, ◌≤◌, ◌<◌}
+use Rattle.std.proofs.Math.Bool.{or-false}
 use Rattle.std.proofs.lemmas.List.Folds.{list_any_at}
 use mathlib.Core.Bool.{Bool, true, false, true≢false}
-use mathlib.Core.Path.{◌≡◌, refl, sym, ◌∙◌}
+use mathlib.Core.Path.{◌≡◌, refl, sym, ap, ◌∙◌}
 use native.Mathlib.Omega.{arith}
 use lib.Dec.{eqb, ltb}
 use lib.ListN.{length, get_or}
-use borrow.Author.Tests.{ltb-true, ltb-false, eq-eqb, ne_eqb, eqb-true, eqb-false}
+use borrow.Author.Tests.{ltb-false, eqb-true, eqb-false}
 use Rattle.prelude.specs.Bits.{bits, is_set}
-use Rattle.prelude.specs.Choice.{when◌then◌else◌}
+use Rattle.prelude.specs.Choice.{when◌then◌else◌, ◌and◌}
 use Rattle.prelude.proofs.Bits.{bits-add}
-use Rattle.prelude.proofs.Tests.{if-true, if-false, if-congruence, if-cases, true-unless-false, tests}
+use Rattle.prelude.proofs.Tests.{if-true, if-congruence, if-cases, true-unless-false}
 use Rattle.setlink.specs.declared.Decision.{Decision}
 use Rattle.setlink.specs.declared.Media.{Media}
 use Rattle.setlink.specs.declared.Media.TheVariants.{Copper, Fibre}
 use Rattle.setlink.specs.declared.Pair.{Pair}
 use Rattle.setlink.specs.Word.{speed10, speed100, speed1000, speed10g, half_duplex, full_duplex, no_speed, speeds, pairs, takes, fits, any_fits}
-use Rattle.setlink.specs.Decide.{no_reason, invalid_parameter, host_conflict, media_conflict, parameter_conflict, speed_conflict, negotiated_reason, forced_reason, parameter_reason, reason_before_media, media_reason, media_reason_on_fibre, reason, decided}
-use Rattle.setlink.specs.Copper.{reason_on_fibre_alone, LeftOutOnCopper}
+use Rattle.setlink.specs.Decide.{no_reason, invalid_parameter, host_conflict, media_conflict, parameter_conflict, speed_conflict, negotiated_reason, forced_reason, parameter_reason, reason_before_media, media_reason, media_reason_on_fibre, reason, settled, decided}
+use Rattle.setlink.specs.Copper.{reason_by_all_checks, decided_by_all_checks, LeftOutOnCopper}
 
 false-unless-true : (t : Bool) → (t ≡ true → ⊥) → t ≡ false
 false-unless-true true h = absurd (h refl)
 false-unless-true false h = refl
-
--- where a test refuses, for a reason, what comes after it is not asked
-after-test : (t : Bool) (why : ℕ) → eqb why no_reason ≡ false → (x y m : ℕ) → x ≡ (when eqb y no_reason then m else y)
-    → (when t then why else x) ≡ (when eqb (when t then why else y) no_reason then m else (when t then why else y))
-unfolding when◌then◌else◌
-after-test true why some x y m e = sym (if-false _ _ _ some)
-after-test false why some x y m e = e
-
--- a reason is one above 0
-by-number : (why m : ℕ) → (when ltb 0 why then why else m) ≡ (when eqb why no_reason then m else why)
-by-number why m =
-    if-cases (λ (x : ℕ). x ≡ (when eqb why no_reason then m else why)) _ _ _
-    (λ some. sym (if-false _ _ _ (ne_eqb why no_reason (λ none. absurd (omega (arith, ltb-true 0 why some))))))
-    (λ none. sym (if-true _ _ _ (eq-eqb why no_reason (omega (arith, ltb-false 0 why none)))))
 
 -- what is read past the end of the table
 abbrev no_pair : Pair
@@ -118,31 +105,39 @@ module _ (word : ℕ) where
         (λ _. if-cases LeavesNothing _ _ _ (λ _. refused invalid_parameter refl refl)
         (λ some. if-cases LeavesNothing _ _ _ (λ _. negotiated-leaves-nothing) (λ _. forced-leaves-nothing some)))))
 
-    -- the reason, by the checks before the medium's and by that
-    by-parts : (media : Media) → reason word host_present media ≡ (when eqb (reason_before_media word host_present) no_reason then media_reason media word else reason_before_media word host_present)
-    unfolding reason reason_before_media media_reason
-    by-parts media = after-test host_present _ refl _ _ _ (after-test _ _ refl _ _ _ (after-test _ _ refl _ _ _ (after-test _ _ refl _ _ _ (by-number (parameter_reason word) _))))
+    fits-when-passed : ltb 0 (reason_before_media word host_present) ≡ false → any_fits Copper word pairs ≡ true
+    fits-when-passed none = checks-leave-nothing.pair_fits (omega (arith, ltb-false 0 _ none))
 
-    no-conflict-on-copper : reason word host_present Copper ≡ media_conflict → ⊥
-    unfolding media_reason
-    no-conflict-on-copper conflict =
+    no-conflict-on-copper : reason_by_all_checks word host_present Copper ≡ media_conflict → ⊥
+    unfolding reason_by_all_checks media_reason
+    no-conflict-on-copper =
         if-cases (λ (why : ℕ). why ≡ media_conflict → ⊥) _ _ _
-        (λ none e. eqb-false no_reason media_conflict refl (sym (if-true _ _ _ (checks-leave-nothing.pair_fits (eqb-true _ _ none))) ∙ e))
-        (λ _. checks-leave-nothing.no-conflict) (sym (by-parts Copper) ∙ conflict)
+        (λ _. checks-leave-nothing.no-conflict)
+        (λ none conflict. eqb-false no_reason media_conflict refl (sym (if-true _ _ _ (fits-when-passed none)) ∙ conflict))
 
-    reason-unchanged : (media : Media) → reason_on_fibre_alone word host_present media ≡ reason word host_present media
-    unfolding reason_on_fibre_alone media_reason_on_fibre media_reason
-    reason-unchanged Copper = rw (by-parts Copper) (if-congruence _ _ _ _ _ (λ none. search (tests, checks-leave-nothing.pair_fits (eqb-true _ _ none))) (λ _. refl))
-    reason-unchanged Fibre = sym (by-parts Fibre)
+    reason-unchanged : (media : Media) → reason word host_present media ≡ reason_by_all_checks word host_present media
+    unfolding reason reason_by_all_checks media_reason_on_fibre media_reason
+    reason-unchanged Copper = if-congruence _ _ _ _ _ (λ _. refl) (λ none. sym (if-true _ _ _ (fits-when-passed none)))
+    reason-unchanged Fibre = refl
 
-reason-told : (in_force word : ℕ) (host_present : Bool) (media : Media) → (decided in_force word host_present media).reason ≡ reason word host_present media
-unfolding decided
-reason-told in_force word host_present media = if-cases (λ (d : Decision). d.reason ≡ reason word host_present media) _ _ _ (λ none. sym (eqb-true _ no_reason none)) (λ _. refl)
+    fibre-takes : any_fits Fibre word pairs ≡ (is_set speed1000 word and is_set full_duplex word)
+    unfolding any_fits fits takes when◌then◌else◌
+    fibre-takes = or-false (is_set speed1000 word and is_set full_duplex word)
+
+    kept-on-fibre : reason_before_media word host_present ≡ no_reason → reason word host_present Fibre ≡ (when is_set speed1000 word and is_set full_duplex word then no_reason else media_conflict)
+    unfolding reason media_reason_on_fibre media_reason when◌then◌else◌
+    kept-on-fibre none = rw none (ap (λ (t : Bool). when t then no_reason else media_conflict) fibre-takes)
+
+reason-settled : (in_force word why : ℕ) → (settled in_force word why).reason ≡ why
+unfolding settled
+reason-settled in_force word why = if-cases (λ (d : Decision). d.reason ≡ why) _ _ _ (λ none. sym (eqb-true why no_reason none)) (λ _. refl)
 
 pub left-out-on-copper : LeftOutOnCopper
+unfolding decided decided_by_all_checks
 left-out-on-copper =
     record {
       pair_selected = λ word host_present. (checks-leave-nothing word host_present).pair_fits;
-      no_media_conflict = λ in_force word host_present e. no-conflict-on-copper word host_present (sym (reason-told in_force word host_present Copper) ∙ e);
-      nothing_changes = reason-unchanged;
+      no_media_conflict = λ in_force word host_present e. no-conflict-on-copper word host_present (sym (reason-settled in_force word _) ∙ e);
+      nothing_changes = λ in_force word host_present media. rw (reason-unchanged word host_present media) refl;
+      kept_on_fibre = λ in_force word host_present none. reason-settled in_force word _ ∙ kept-on-fibre word host_present none;
     }

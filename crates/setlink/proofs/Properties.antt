@@ -5,11 +5,11 @@ use mathlib.Core.Path.{refl}
 use native.Mathlib.Omega.{arith}
 use borrow.Author.Tests.{eqb-false}
 use Rattle.prelude.proofs.Tests.{if-cases}
-use Rattle.setlink.specs.Decide.{no_reason, reason, decided}
+use Rattle.setlink.specs.Decide.{no_reason, reason, settled, decided}
 use Rattle.setlink.specs.Properties.{Settles, EveryDecision}
 
 pub every-decision : EveryDecision
-unfolding decided
+unfolding decided settled
 every-decision in_force word host_present media =
     if-cases (Settles in_force word) _ _ _
     (λ e. record { answered = inl refl; accepted = λ _. (refl, refl); refused = λ p. absurd (omega arith) })

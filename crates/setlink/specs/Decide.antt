@@ -52,7 +52,7 @@ code_answered (Err reason) = code_of reason
 unfoldable pub negotiated_reason : ℕ → ℕ
 negotiated_reason word = when any_fits Copper word pairs then no_reason else invalid_parameter
 
--- check 4: a forced link wants one speed, one duplex, no half duplex from 1000 up, and not 10G (manual 7.3)
+-- check 4: a forced link, which has a speed by check 2, wants no second one, one duplex, no half duplex from 1000 up, and not 10G (manual 7.3)
 unfoldable pub forced_reason : ℕ → ℕ
 forced_reason word =
     when ltb 1 (speeds word) then speed_conflict else
@@ -70,18 +70,7 @@ forced_reason word =
 unfoldable pub parameter_reason : ℕ → ℕ
 parameter_reason word = when is_set auto_negotiation word then negotiated_reason word else forced_reason word
 
--- why a word is refused, or no reason: checks 1 to 5. A word has 32 bits, so that bits 12 to 31 are what its division by 2 ^ 12 leaves (manual 7.1, 7.3)
-unfoldable pub reason : ℕ → Bool → Media → ℕ
-reason word host_present media =
-    when host_present then host_conflict else
-    when ltb 0 (bits 5 3 word) then invalid_parameter else
-    when ltb 0 (word / 2 ^ 12) then invalid_parameter else
-    when no_speed word then invalid_parameter else
-    when ltb 0 (parameter_reason word) then parameter_reason word else
-    when any_fits media word pairs then no_reason else
-    media_conflict
-
--- checks 1 to 4, which do not read the medium: why they refuse a word, or no reason (manual 7.1, 7.3)
+-- checks 1 to 4, which do not read the medium: why they refuse a word, or no reason. A word has 32 bits, so that its quotient by 2 ^ 12 is the number in bits 12 to 31 (manual 7.1, 7.3)
 unfoldable pub reason_before_media : ℕ → Bool → ℕ
 reason_before_media word host_present =
     when host_present then host_conflict else
@@ -99,11 +88,21 @@ unfoldable pub media_reason_on_fibre : Media → ℕ → ℕ
 media_reason_on_fibre Copper word = no_reason
 media_reason_on_fibre Fibre word = media_reason Fibre word
 
--- a word that passes all checks comes into force, and a refusal keeps the word in force (manual 7.4)
+-- why a word is refused, or no reason: the first check that refuses it (manual 7.3, 7.5)
+unfoldable pub reason : ℕ → Bool → Media → ℕ
+reason word host_present media =
+    when ltb 0 (reason_before_media word host_present) then reason_before_media word host_present else
+    media_reason_on_fibre media word
+
+-- without a reason the word comes into force; with one the word in force stays (manual 7.3, 7.4)
+unfoldable pub settled : (in_force word why : ℕ) → Decision
+settled in_force word why =
+    when eqb why no_reason then record { response = completed; reason = no_reason; in_force = word } else
+    record { response = failed; reason = why; in_force = in_force }
+
+-- the decision on a word, with the word in force, the host and the medium (manual 7.3, 7.4)
 unfoldable pub decided : ℕ → ℕ → Bool → Media → Decision
-decided in_force word host_present media =
-    when eqb (reason word host_present media) no_reason then record { response = completed; reason = no_reason; in_force = word } else
-    record { response = failed; reason = reason word host_present media; in_force = in_force }
+decided in_force word host_present media = settled in_force word (reason word host_present media)
 
 -- the word in force before the first Set Link (manual 7.4)
 abbrev pub fresh_word : ℕ

@@ -1,6 +1,6 @@
 // The Set Link decision of the Intel I210 (data sheet, 10.6.2.1), with the response and reason
 // codes of DMTF DSP0222. Its five checks are those of manual 7.3.
-#![tactic(auto, using(prelude::proofs::Tests::tests), unfolding(crate::specs::Word::takes, crate::specs::Word::fits, crate::specs::Word::any_fits, crate::specs::Word::media_of, crate::specs::Decide::forced_reason, crate::specs::Decide::parameter_reason, crate::specs::Decide::negotiated_reason, crate::specs::Decide::reason_before_media, crate::specs::Decide::media_reason_on_fibre, crate::specs::Decide::media_reason, crate::specs::Decide::reason, crate::specs::Decide::decided))]
+#![tactic(auto, using(crate::proofs::Codes::codes), unfolding(crate::specs::Word::takes, crate::specs::Word::fits, crate::specs::Word::any_fits, crate::specs::Word::media_of, crate::specs::Decide::forced_reason, crate::specs::Decide::parameter_reason, crate::specs::Decide::negotiated_reason, crate::specs::Decide::reason_before_media, crate::specs::Decide::media_reason_on_fibre, crate::specs::Decide::media_reason, crate::specs::Decide::reason, crate::specs::Decide::settled, crate::specs::Decide::decided))]
 
 ghost use Rattle.std.specs.Prelude.{◌≡◌, ◌<◌};
 ghost use Rattle.prelude.specs.Bits.{is_set};
@@ -206,7 +206,7 @@ fn judge_parameters(word: u32) -> Result<(), Reason>
     judge_forced(word)
 }
 
-// Check 4: one speed and one duplex, no half duplex from 1000 up, and not 10G.
+// Check 4: no second speed, one duplex, no half duplex from 1000 up, and not 10G.
 fn judge_forced(word: u32) -> Result<(), Reason>
     ensures { code_answered result ≡ forced_reason word }
 {

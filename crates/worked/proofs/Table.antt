@@ -3,7 +3,7 @@
 use mathlib.Core.Path.{refl}
 use Rattle.prelude.specs.Choice.{when◌then◌else◌}
 use Rattle.prelude.specs.Parts.{put}
-use Rattle.setlink.specs.Decide.{negotiated_reason, forced_reason, parameter_reason, reason, decided}
+use Rattle.setlink.specs.Decide.{negotiated_reason, forced_reason, parameter_reason, reason_before_media, media_reason, media_reason_on_fibre, reason, settled, decided}
 use Rattle.setlink.specs.Word.{takes, fits, any_fits}
 use Rattle.status.specs.Block as block
 use Rattle.status.specs.Judged as status
@@ -29,7 +29,7 @@ unfolding run_on cells_in transacted readiness_of by_readiness by_class fragment
     filled sent_length put short_form_answered long_form_answered receive_enabled freshened
     settings_layout.allowed settings_layout.settings_in settings_layout.with_settings settings_layout.has_its_mac settings_layout.sound
     is_in_settings source_of in_force records_after
-    decided reason parameter_reason negotiated_reason forced_reason any_fits fits takes
+    decided settled reason reason_before_media media_reason_on_fibre media_reason parameter_reason negotiated_reason forced_reason any_fits fits takes
     status.bad_length status.bad_index status.judged block.written block.block block.told block.if_done block.block_back block.mng_status block.judged_block block.parsed block.fields_back when◌then◌else◌
 worked =
     ((refl, refl), (refl, ((refl, refl), ((refl, refl), (refl, ((refl, refl), ((refl, refl), ((refl, refl), ((refl, refl), (refl, (refl, (refl, (refl, (refl, (refl, (refl, (refl, (refl, (refl, (refl, (refl, (refl, ((refl, refl), ((refl, refl), ((refl, refl), ((refl, refl), ((refl, refl), ((refl, refl), ((refl, refl), ((refl, refl), ((refl, refl), ((refl, refl), ((refl, refl), ((refl, refl), ((refl, refl), ((refl, refl), ((refl, refl), ((refl, refl), ((refl, refl), ((refl, refl), ((refl, refl), ((refl, refl), ((refl, refl), ((refl, refl), ((refl, refl), ((refl, refl), ((refl, refl), ((refl, refl), ((refl, refl), ((refl, refl), ((refl, refl), ((refl, refl), ((refl, refl), ((refl, refl), ((refl, refl), ((refl, refl), ((refl, refl), ((refl, refl), ((refl, refl), (refl, (refl, (refl, (refl, (refl, (refl, (refl, (refl, (refl, (refl, (refl, (refl, (refl, ((refl, refl), ((refl, refl), (refl, (refl, (refl, (refl, (refl, (refl, (refl, (refl, (refl, (refl, (refl, (refl, (refl, (refl, (refl, (refl, (refl, (refl, (refl, (refl, (refl, (refl, (refl, (refl, (refl, (refl, (refl, (refl, (refl, (refl, (refl, (refl, (refl, (refl, (refl, (refl, (refl, (refl, (refl, (refl, (refl, (refl, (refl, (refl, (refl, (refl, (refl, (refl, (refl, (refl, (refl, (refl, (refl, (refl, (refl, (refl, (refl, (refl, (refl, (refl, (refl, (refl, (refl, (refl, (refl, (refl, (refl, (refl, (refl, (refl, (refl, (refl, (refl, (refl, (refl, (refl, (refl, (refl, (refl, (refl, (refl, (refl, (refl, (refl, (refl, (refl, (refl, (refl, (refl, (refl, (refl, (refl, (refl, (refl, (refl, (refl, (refl, (refl, (refl, (refl, (refl, (refl, (refl, (refl, (refl, (refl, (refl, (refl, (refl, (refl, (refl, (refl, (refl, (refl, (refl, (refl, (refl, (refl, (refl, (refl, (refl, (refl, (refl, (refl, (refl, (refl, (refl, (refl, (refl, (refl, (refl, (refl, (refl, (refl, (refl, (refl, tt))))))))))))))))))))))))))))))))))))))))))))))))))))))))))))))))))))))))))))))))))))))))))))))))))))))))))))))))))))))))))))))))))))))))))))))))))))))))))))))))))))))))))))))))))))))))))))))))))))))))))))))))))
