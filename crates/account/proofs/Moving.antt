@@ -5,20 +5,14 @@ use mathlib.Core.List.{List, ◌++◌}
 use mathlib.Core.Path.{◌≡◌, sym, ap, ◌∙◌}
 use native.Mathlib.Omega.{arith}
 use lib.ListN.{length, take, drop}
-use lib.Seq.{take-add, take_at, drop_at, length-take-le}
+use lib.Seq.{take_at}
 use borrow.Author.Tests.{le-ltb, ltb-false}
 use Rattle.std.specs.List.{copy_within}
+use Rattle.std.proofs.lemmas.Slice.{between_is}
 use Rattle.prelude.specs.Parts.{part, put}
 use Rattle.prelude.proofs.Lists.{length_part, length-put}
 use Rattle.prelude.proofs.Tests.{if-false, if-cases}
 use Rattle.account.specs.Buffer.{Moved, moved, moved_to_front}
-
--- the part from one place up to another is what the first of them leave
-drop-take : (from to : ℕ) (xs : List ℕ) → from ≤ to → to ≤ length xs → drop from (take to xs) ≡ part from (to - from) xs
-drop-take from to xs h k =
-    let whole : from + (to - from) ≡ to = omega arith in
-    ap (λ (n : ℕ). drop from (take n xs)) (sym whole)
-    ∙ (ap (drop from) (take-add from (to - from) xs) ∙ drop_at (take from xs) (part from (to - from) xs) from (length-take-le from xs (omega arith)))
 
 -- what is moved to the front is there
 module _ (from to : ℕ) (buffer : List ℕ) (h : from ≤ to) (k : to ≤ length buffer) where
@@ -36,7 +30,7 @@ module _ (from to : ℕ) (buffer : List ℕ) (h : from ≤ to) (k : to ≤ lengt
   unfolding put
   moved-bytes =
       ap (λ (m : Moved). take m.count m.buffer) is-moved
-      ∙ (take_at piece (drop (0 + length piece) buffer) (to - from) piece-size ∙ sym (drop-take from to buffer h k))
+      ∙ (take_at piece (drop (0 + length piece) buffer) (to - from) piece-size ∙ between_is buffer from to)
 
   pub copied-to-front : copy_within buffer from to 0 ≡ put buffer 0 piece
   unfolding put

@@ -8,13 +8,15 @@ use native.Mathlib.Omega.{arith}
 use lib.ListN.{length, take, drop, length-drop}
 use lib.Seq.{take-add, length-take-le}
 use borrow.Author.Tests.{le-ltb}
+use Rattle.std.specs.Prelude.{Option}
 use Rattle.prelude.specs.Choice.{when◌then◌else◌}
 use Rattle.prelude.specs.Parts.{part}
 use Rattle.prelude.proofs.Tests.{if-true, if-false}
-use Rattle.printout.specs.Printout.{shown}
+use Rattle.state.specs.declared.Account.{Account}
 use Rattle.journal.specs.declared.reading.Reading.{Reading}
 use Rattle.journal.specs.Feeding.{Fed, fed, is_bad, started, concluded}
-use Rattle.journal.specs.Journal.{output}
+use Rattle.journal.specs.Format.{parsed}
+use Rattle.journal.specs.Journal.{account_in, outcome_printed}
 use Rattle.journal.specs.Properties.{Progress, fed_on, fed_pieces, at_start, max_record}
 use Rattle.journal.proofs.Left.{less-than-a-record}
 use Rattle.journal.proofs.Pieces.{in_pieces}
@@ -135,24 +137,30 @@ stands bytes s (begins buffer) =
     }
 stands bytes s (goes_on {bytes = first} {piece = piece} {before = before} {after = after} session r) = stands-next first piece before after (stands first before session) r
 
-pub every-session : EverySession
+session-account : (bytes : List ℕ) (s : InBuffer) → Session bytes s → concluded s.next.reading s.next.unused ≡ account_in (parsed bytes)
 unfolding fed_pieces
-every-session bytes s out session =
+session-account bytes s session =
     let st : Stands bytes s = stands bytes s session in
     let p : Progress = fed_on at_start bytes in
-    let whole : concluded p.reading (length p.unused) out ≡ shown (output bytes) out =
-    in_pieces.printed_in_the_end (bytes ∷ []) out ∙ ap (λ (l : List ℕ). shown (output l) out) (append-nil bytes) in
+    let whole : concluded p.reading (length p.unused) ≡ account_in (parsed bytes) =
+    in_pieces.account_in_the_end (bytes ∷ []) ∙ ap (λ (l : List ℕ). account_in (parsed l)) (append-nil bytes) in
     by-test st (is_bad s.next.reading) refl ∙ whole
   where
     by-test : Stands bytes s → (b : Bool) → is_bad s.next.reading ≡ b
-        → concluded s.next.reading s.next.unused out ≡ concluded (fed_on at_start bytes).reading (length (fed_on at_start bytes).unused) out
+        → concluded s.next.reading s.next.unused ≡ concluded (fed_on at_start bytes).reading (length (fed_on at_start bytes).unused)
     by-test st true e =
-        in_pieces.bad_is_printed s.next.reading s.next.unused out e
-        ∙ sym (in_pieces.bad_is_printed (fed_on at_start bytes).reading (length (fed_on at_start bytes).unused) out (ap is_bad (sym st.reading-is) ∙ e))
+        in_pieces.bad_has_none s.next.reading s.next.unused e
+        ∙ sym (in_pieces.bad_has_none (fed_on at_start bytes).reading (length (fed_on at_start bytes).unused) (ap is_bad (sym st.reading-is) ∙ e))
     by-test st false e =
         let size : s.next.unused ≡ length (fed_on at_start bytes).unused = sym (length-take-le s.next.unused s.buffer st.fits) ∙ ap length (st.unused-are e) in
-        ap (λ (n : ℕ). concluded s.next.reading n out) size
-        ∙ ap (λ (x : Reading). concluded x (length (fed_on at_start bytes).unused) out) st.reading-is
+        ap (λ (n : ℕ). concluded s.next.reading n) size
+        ∙ ap (λ (x : Reading). concluded x (length (fed_on at_start bytes).unused)) st.reading-is
+
+pub every-session : EverySession
+every-session = record {
+  account_is = session-account;
+  printed_is = λ bytes s out session. ap (λ (a : Option Account). outcome_printed a out) (session-account bytes s session) ∙ in_pieces.printed_in_the_end bytes out;
+}
 
 pub always-room : AlwaysRoom
 always-room bytes s small session =

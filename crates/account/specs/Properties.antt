@@ -3,7 +3,8 @@ use Rattle.std.specs.Prelude.{ℕ, ◌-◌, ◌≤◌, ◌<◌, List, [], ◌++�
 use Rattle.prelude.specs.Parts.{part}
 use Rattle.printout.specs.Printout.{shown}
 use Rattle.journal.specs.Feeding.{started, concluded}
-use Rattle.journal.specs.Journal.{output}
+use Rattle.journal.specs.Format.{parsed}
+use Rattle.journal.specs.Journal.{account_in, output, outcome_printed}
 use Rattle.journal.specs.Properties.{AreBytes, max_record}
 use Rattle.account.specs.Piece.{InBuffer, in_buffer, next_at, piece_fed}
 
@@ -22,10 +23,10 @@ pub data Session : List ℕ → InBuffer → Type 0 where
   begins : (buffer : List ℕ) → Session [] (in_buffer (next_at started 0) buffer)
   goes_on : {bytes piece : List ℕ} {before after : InBuffer} → Session bytes before → Reads before piece after → Session (bytes ++ piece) after
 
--- when nothing comes any more, the outcome of all the bytes is printed (manual 9.5)
-abbrev pub EverySession : Type 0
-EverySession =
-    (bytes : List ℕ) (s : InBuffer) (out : List ℕ) → Session bytes s → concluded s.next.reading s.next.unused out ≡ shown (output bytes) out
+-- when nothing comes any more, the account is that of all the bytes, and none where they are no journal; what is printed of it is their output (manual 9.5)
+pub record EverySession : Type 0 where
+  pub account_is : (bytes : List ℕ) (s : InBuffer) → Session bytes s → concluded s.next.reading s.next.unused ≡ account_in (parsed bytes)
+  pub printed_is : (bytes : List ℕ) (s : InBuffer) (out : List ℕ) → Session bytes s → outcome_printed (concluded s.next.reading s.next.unused) out ≡ shown (output bytes) out
 
 -- fewer bytes than a record has are not used yet, so there is room behind them, and a read of no bytes is the end (manual 9.5)
 abbrev pub AlwaysRoom : Type 0

@@ -39,7 +39,7 @@ fn print_fed(
         let used = reading.feed(&unused);
         unused.drain(..used);
     }
-    Ok(reading.conclude(unused.len(), out))
+    Ok(journal::print_outcome(reading.conclude(unused.len()), out))
 }
 
 pub(crate) fn account(case: &Case) -> Answer {

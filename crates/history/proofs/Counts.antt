@@ -145,23 +145,23 @@ pub adds-alone : (fate : Fate) (piece : List ℕ) → Adds (row_of fate) 0 1 (le
 adds-alone fate piece =
     subst (λ (bytes : List ℕ). Adds (row_of fate) 0 1 (length bytes) 0 0 (alone piece (row fate) ∷ [])) (append-nil piece) (adds-item fate (alone piece (row fate)) refl)
 
+-- a command, in a line that is no row
+adds-command : (line : Line) (k q : ℕ) → ((fate : Fate) → line_number line ≡ row_of fate → ⊥) → k ≡ count_in (alone [] line ∷ []) taken fragments
+    → q ≡ count_in (alone [] line ∷ []) refused fragments → ((c : Column) → count_in (alone [] line ∷ []) opened c ≡ 0) → Adds no_row 0 0 0 k q (alone [] line ∷ [])
+adds-command line k q apart in-taken in-refused none = record {
+  in_rows = λ other c. no-row (amount_of 0 0 0 c) other ∙ sym (omega (arith, in-other-line line (amount (alone [] line) c) (row other) (apart other)));
+  in_taken = in-taken;
+  in-refused = in-refused;
+  none_open = none;
+}
+
 pub adds-taken : Adds no_row 0 0 0 1 0 (alone [] taken ∷ [])
 unfolding amount in_line when◌then◌else◌
-adds-taken = record {
-  in_rows = λ other c. no-row (amount_of 0 0 0 c) other ∙ sym (omega (arith, in-other-line taken (amount (alone [] taken) c) (row other) (λ q. omega (arith, row-in-grid other, q))));
-  in_taken = refl;
-  in-refused = refl;
-  none_open = λ c. refl;
-}
+adds-taken = adds-command taken 1 0 (λ fate e. omega (arith, row-in-grid fate, e)) refl refl (λ c. refl)
 
 pub adds-refused : Adds no_row 0 0 0 0 1 (alone [] refused ∷ [])
 unfolding amount in_line when◌then◌else◌
-adds-refused = record {
-  in_rows = λ other c. no-row (amount_of 0 0 0 c) other ∙ sym (omega (arith, in-other-line refused (amount (alone [] refused) c) (row other) (λ q. omega (arith, row-in-grid other, q))));
-  in_taken = refl;
-  in-refused = refl;
-  none_open = λ c. refl;
-}
+adds-refused = adds-command refused 0 1 (λ fate e. omega (arith, row-in-grid fate, e)) refl refl (λ c. refl)
 
 -- the packet that ends, if one is open
 pub adds-closing : (fate : Fate) (held : List (List ℕ)) (f b : ℕ) → f ≡ length held → b ≡ total_of held → Adds (row_number (ends_in (fate_row fate) f)) 1 f b 0 0 (closing (row fate) held)
@@ -203,7 +203,7 @@ pub counted-counts : {held : List (List ℕ)} {done : List Item} {total : ℕ} (
     → (held_after : List (List ℕ)) (closed own : List Item)
     → Adds (row_number ends) 1 a.beside.open_fragments a.beside.open_bytes 0 0 closed
     → (at : Option Row) (p f b open_fragments open_bytes k q : ℕ)
-    → counting.tally_of o (counting.left_open (row_number ends) a.beside.open_fragments) (counting.left_open (row_number ends) a.beside.open_bytes) size ≡ counting.tally at p f b open_fragments open_bytes k q
+    → counting.outcome_tally o (counting.left_open (row_number ends) a.beside.open_fragments) (counting.left_open (row_number ends) a.beside.open_bytes) size ≡ counting.tally at p f b open_fragments open_bytes k q
     → Adds (row_number at) p f b k q own → open_fragments ≡ length held_after → open_bytes ≡ total_of held_after
     → Counts (counting.counted (judged o ends size) a) held_after ((done ++ closed) ++ own) (1 + total)
 unfolding counting.counted counting.grid_after

@@ -16,11 +16,12 @@ use Rattle.packet.specs.Store as store_of
 use Rattle.state.specs.declared.Account.{Account}
 use Rattle.state.specs.declared.row.Row.{Row}
 use Rattle.state.specs.Account.{no_row, row_number}
+use Rattle.outcome.specs.declared.Cause.{Cause}
 use Rattle.outcome.specs.declared.Cause.TheVariants as cause
 use Rattle.outcome.specs.declared.Outcome.{Outcome}
 use Rattle.outcome.specs.declared.Outcome.TheVariants as outcome
 use Rattle.outcome.specs.declared.Reply.{Reply}
-use Rattle.outcome.specs.Outcome.{reply_to}
+use Rattle.outcome.specs.Outcome.{cause_number, reply_to}
 use Rattle.translator.specs.Counting as counting
 use Rattle.translator.specs.Joining as join
 use Rattle.translator.specs.Judge as judge
@@ -129,7 +130,7 @@ module _ (a : Account) (held : List (List ℕ)) (done : List Item) (total : ℕ)
         (record { answer = answer; sent = when eqb answer 1 then sent_length (total_of pieces) else 0 })
 
     ended-counts : (o : Outcome) (fate : Fate)
-        → counting.tally_of o (counting.left_open (row_number ending) open_fragments) (counting.left_open (row_number ending) open_bytes) (length piece) ≡ counting.whole (fate_row fate) (counting.left_open (row_number ending) open_fragments) (counting.left_open (row_number ending) open_bytes) (length piece)
+        → counting.outcome_tally o (counting.left_open (row_number ending) open_fragments) (counting.left_open (row_number ending) open_bytes) (length piece) ≡ counting.whole (fate_row fate) (counting.left_open (row_number ending) open_fragments) (counting.left_open (row_number ending) open_bytes) (length piece)
         → Counts (counting.counted (judge.judged o ending (length piece)) a) [] ((done ++ closes) ++ run pieces (row fate) ∷ []) (1 + total)
     ended-counts o fate e =
         counted-counts o ending (length piece) a counts [] closes (run pieces (row fate) ∷ []) closes-adds _ _ _ _ _ _ _ _ e (adds_run fate pieces _ _ more-fragments more_bytes) refl refl
@@ -137,32 +138,29 @@ module _ (a : Account) (held : List (List ℕ)) (done : List Item) (total : ℕ)
     nothing-held : Holds size store_left []
     nothing-held = holds-nothing store_left store-holds.size_is store-holds.room
 
-    over-goes : Ends (outcome.Discarded cause.Over) 4
-    unfolding join.filled_if packets_of when◌then◌else◌
-    over-goes = record {
-      counts-are = ended-counts (outcome.Discarded cause.Over) over refl;
+    -- a packet that is discarded, in the row of its fate
+    discarded-goes : (c : Cause) (fate : Fate)
+        → counting.outcome_tally (outcome.Discarded c) (counting.left_open (row_number ending) open_fragments) (counting.left_open (row_number ending) open_bytes) (length piece) ≡ counting.whole (fate_row fate) (counting.left_open (row_number ending) open_fragments) (counting.left_open (row_number ending) open_bytes) (length piece)
+        → packets_of (reply_to (outcome.Discarded c)) (store_left ++ rest) ≡ [] → (row_of fate ≡ row_of sent → ⊥)
+        → Goes (outcome.Discarded c) ending (length piece) store_left [] closes (run pieces (row fate) ∷ []) (answered (cause_number c))
+    discarded-goes c fate e none other = record {
+      counts-are = ended-counts (outcome.Discarded c) fate e;
       holds = nothing-held;
-      sent_are = sent-then closes (run pieces (row over) ∷ []) [] closes-unsent (run-unsent over pieces (λ q. omega (arith, q)));
+      sent_are = sent-then closes (run pieces (row fate) ∷ []) _ closes-unsent (run-unsent fate pieces other ∙ sym none);
       reply_is = refl;
     }
+
+    over-goes : Ends (outcome.Discarded cause.Over) 4
+    unfolding join.filled_if packets_of when◌then◌else◌
+    over-goes = discarded-goes cause.Over over refl refl (λ q. omega (arith, q))
 
     short-goes : Ends (outcome.Discarded cause.Short) 5
     unfolding join.filled_if packets_of when◌then◌else◌
-    short-goes = record {
-      counts-are = ended-counts (outcome.Discarded cause.Short) short refl;
-      holds = nothing-held;
-      sent_are = sent-then closes (run pieces (row short) ∷ []) [] closes-unsent (run-unsent short pieces (λ q. omega (arith, q)));
-      reply_is = refl;
-    }
+    short-goes = discarded-goes cause.Short short refl refl (λ q. omega (arith, q))
 
     linkdown-goes : Ends (outcome.Discarded cause.LinkDown) 6
     unfolding join.filled_if packets_of when◌then◌else◌
-    linkdown-goes = record {
-      counts-are = ended-counts (outcome.Discarded cause.LinkDown) linkdown refl;
-      holds = nothing-held;
-      sent_are = sent-then closes (run pieces (row linkdown) ∷ []) [] closes-unsent (run-unsent linkdown pieces (λ q. omega (arith, q)));
-      reply_is = refl;
-    }
+    linkdown-goes = discarded-goes cause.LinkDown linkdown refl refl (λ q. omega (arith, q))
 
     sent-goes : total_of pieces ≤ max_packet → Ends (outcome.Sent (store_of.sent_length (total_of pieces))) 1
     unfolding join.filled_if packets_of sent_length store_of.sent_length when◌then◌else◌
@@ -290,7 +288,7 @@ module _ (a : Account) (held : List (List ℕ)) (done : List Item) (total : ℕ)
 
   -- a command ends the packet as flushed, or passes
   module _ (store : List ℕ) (holds : Holds size store held) (o : Outcome) (answer k q : ℕ) (stands : Alone answer) (reply : reply_to o ≡ answered answer)
-      (tally : (f b : ℕ) → counting.tally_of o f b 0 ≡ counting.tally None 0 0 0 f b k q) (adds : Adds no_row 0 0 0 k q (alone [] (line_of answer) ∷ [])) where
+      (tally : (f b : ℕ) → counting.outcome_tally o f b 0 ≡ counting.tally None 0 0 0 f b k q) (adds : Adds no_row 0 0 0 k q (alone [] (line_of answer) ∷ [])) where
     none-sent : packets_of (reply_to o) (store ++ rest) ≡ []
     unfolding packets_of when◌then◌else◌
     none-sent = ap (λ (r : Reply). packets_of r (store ++ rest)) reply ∙ by_answer answer stands

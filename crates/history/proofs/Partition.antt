@@ -5,7 +5,7 @@ use mathlib.Core.Bool.{Bool, true, false}
 use mathlib.Core.List.{List, [], ◌∷◌, ◌++◌, reverse_aux, reverse}
 use mathlib.Core.Path.{◌≡◌, refl, ap, ◌∙◌}
 use native.Mathlib.Omega.{arith}
-use lib.ListN.{length, length-append}
+use lib.ListN.{length, length-append, length-reverse_aux}
 use Rattle.prelude.specs.Choice.{when◌then◌else◌}
 use Rattle.prelude.proofs.Tests.{if-cases}
 use Rattle.history.specs.Lines.{Fate, sent, superseded, flushed, broken, over, short, linkdown, aborted, badlength, Line, row, opened, lines, line_of, fragments, is_line, in_line}
@@ -145,10 +145,6 @@ sum_same : (f g : Line → ℕ) → ((line : Line) → f line ≡ g line) → (l
 sum_same f g e [] = refl
 sum_same f g e (l ∷ ls) = omega (arith, e l, sum_same f g e ls)
 
-length-reversed : (list more : List Role) → length (reverse_aux list more) ≡ length list + length more
-length-reversed [] more = omega arith
-length-reversed (role ∷ list) more = omega (arith, length-reversed list (role ∷ more))
-
 total-reversed : (list more : List Entry) → total (reverse_aux list more) ≡ total list + total more
 total-reversed [] more = omega arith
 total-reversed (counted t ∷ list) more = omega (arith, total-reversed list (counted t ∷ more))
@@ -157,7 +153,7 @@ pub total-reverse : (entries : List Entry) → total (reverse entries) ≡ total
 total-reverse entries = omega (arith, total-reversed entries [])
 
 pub as-many-roles : (setup : Setup) (entries : List Entry) → length (roles setup entries) ≡ total entries
-as-many-roles setup entries = omega (arith, length-reversed (roles_back setup (reverse entries)) [], roles-length setup (reverse entries), total-reverse entries)
+as-many-roles setup entries = omega (arith, length-reverse_aux (roles_back setup (reverse entries)) [], roles-length setup (reverse entries), total-reverse entries)
 
 pub partition : Partition
 partition setup entries =

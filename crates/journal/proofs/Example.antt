@@ -20,30 +20,26 @@ use Rattle.journal.specs.Example.{Example, ByteByByte, CutIsBad, EveryRow, Diffe
 use Rattle.journal.specs.Format.{is_marked, header_in, parsed}
 use Rattle.journal.specs.Journal.{output}
 
-pub example : Example
+-- together, since they compute by the same definitions
+examples : Example × (ByteByByte × EveryRow)
 unfolding output parsed is_marked header_in records_after all_transacted printout fate_lines count_lines open_packets fields field decimal_in
     transacted readiness_of by_readiness by_class fragment by_sequence joined completed completed_of filled_if bad_length sequence_of enable unknown ends_in class_in has_both_flags add_to left_open grid_after counted
     state-sound.row_sound state-sound.rows_sound state-sound.singles_sound state-sound.open_sound state-sound.sum_holds state-sound.account_sound state-sound.sound all_fragments
     sent_length filled put receive_enabled short_form_answered settings_layout.allowed settings_layout.with_settings settings_layout.settings_in settings_layout.has_its_mac settings_layout.sound when◌then◌else◌
-example = refl
+examples = (refl, (refl, refl))
+
+pub example : Example
+example = examples.0
 
 pub byte-by-byte : ByteByByte
-unfolding output parsed is_marked header_in records_after all_transacted printout fate_lines count_lines open_packets fields field decimal_in
-    transacted readiness_of by_readiness by_class fragment by_sequence joined completed completed_of filled_if bad_length sequence_of enable unknown ends_in class_in has_both_flags add_to left_open grid_after counted
-    state-sound.row_sound state-sound.rows_sound state-sound.singles_sound state-sound.open_sound state-sound.sum_holds state-sound.account_sound state-sound.sound all_fragments
-    sent_length filled put receive_enabled short_form_answered settings_layout.allowed settings_layout.with_settings settings_layout.settings_in settings_layout.has_its_mac settings_layout.sound when◌then◌else◌
-byte-by-byte = refl
+byte-by-byte = examples.1.0
+
+pub every-row : EveryRow
+every-row = examples.1.1
 
 pub cut-is-bad : CutIsBad
 unfolding output parsed is_marked header_in records_after when◌then◌else◌
 cut-is-bad = (refl, refl)
-
-pub every-row : EveryRow
-unfolding output parsed is_marked header_in records_after all_transacted printout fate_lines count_lines open_packets fields field decimal_in
-    transacted readiness_of by_readiness by_class fragment by_sequence joined completed completed_of filled_if bad_length sequence_of enable unknown ends_in class_in has_both_flags add_to left_open grid_after counted
-    state-sound.row_sound state-sound.rows_sound state-sound.singles_sound state-sound.open_sound state-sound.sum_holds state-sound.account_sound state-sound.sound all_fragments
-    sent_length filled put receive_enabled short_form_answered settings_layout.allowed settings_layout.with_settings settings_layout.settings_in settings_layout.has_its_mac settings_layout.sound when◌then◌else◌
-every-row = refl
 
 pub different-numbers : DifferentNumbers
 unfolding printout fate_lines count_lines open_packets fields field decimal_in

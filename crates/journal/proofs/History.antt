@@ -26,7 +26,8 @@ use Rattle.history.specs.Demand3.{Demand3For, fresh}
 use Rattle.history.specs.Reading.{Entry, counted, setup_for}
 use Rattle.history.specs.Runs.{account_for}
 use Rattle.history.proofs.Demand3.{demand3}
-use Rattle.journal.specs.Journal.{account_after, output_of, output}
+use Rattle.journal.specs.Format.{Journal}
+use Rattle.journal.specs.Journal.{account_after, account_in, text_of, output}
 use Rattle.journal.specs.History.{kept_after, list_of, EveryJournal}
 use Rattle.journal.proofs.RoundTrip.{round_trip}
 
@@ -99,4 +100,4 @@ every-journal bytes maximum transactions e =
     let demand : Demand3For maximum empty_store settings_at_start (map call_of transactions) = demand3 maximum empty_store settings_at_start (rw settings-length (omega arith)) (map call_of transactions) in
     let listed : account_after maximum transactions ≡ account_for (setup_for maximum) (list_of transactions) =
     kept-is ∙ demand.agrees.account_agrees ∙ ap (account_for (setup_for maximum)) (demand.list_is ∙ ap (take most_counted) (all-have-room transactions)) in
-    record { account_is_kept = kept-is; account_is_the_lists = listed; printed_is_the_lists = ap output_of e ∙ ap printout listed }
+    record { account_is_kept = kept-is; account_is_the_lists = listed; printed_is_the_lists = ap (λ (j : Journal). text_of (account_in j)) e ∙ ap printout listed }

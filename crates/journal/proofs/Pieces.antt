@@ -10,13 +10,13 @@ use lib.ListN.{length, get_or, drop, length-append, length-drop, get_or-append}
 use lib.Seq.{drop-drop, drop-append-le}
 use borrow.Author.Tests.{le-ltb}
 use Rattle.prelude.specs.After.{After, after}
-use Rattle.std.specs.Prelude.{Result, Ok, Err}
+use Rattle.std.specs.Prelude.{Result, Ok, Err, Option, None}
 use Rattle.prelude.specs.Choice.{when◌then◌else◌}
 use Rattle.prelude.proofs.Tests.{if-true, if-false, if-cases}
-use Rattle.printout.specs.Printout.{Written, shown}
 use Rattle.record.specs.Records.{Records, records_in}
 use Rattle.record.specs.Transaction.{Transaction}
 use Rattle.record.proofs.Resuming.{and_then, records-append}
+use Rattle.state.specs.declared.Account.{Account}
 use Rattle.state.specs.declared.State.{State}
 use Rattle.translator.specs.declared.records.Replay.{Replay}
 use Rattle.translator.specs.Replay.{state_after, all_transacted, stopped_after, records_taken, replay_of, stop_of, replayed, fresh_replay}
@@ -26,13 +26,13 @@ use Rattle.journal.specs.declared.header.HeaderError.TheVariants as header
 use Rattle.journal.specs.declared.reading.Reading.{Reading}
 use Rattle.journal.specs.declared.reading.Stage.{Stage}
 use Rattle.journal.specs.declared.reading.Stage.TheVariants as stage
-use Rattle.journal.specs.Feeding.{Fed, fed_to, reading_at, stage_after, records_fed, by_header, by_stage, fed, is_bad, is_bad_stage, concluded_at, concluded}
-use Rattle.journal.specs.Format.{mark_size, header_size, is_marked, header_in, bad_journal}
-use Rattle.journal.specs.Journal.{output}
+use Rattle.journal.specs.Feeding.{Fed, fed_to, reading_at, stage_after, records_fed, by_header, by_stage, fed, is_bad, is_bad_stage, account_at, concluded}
+use Rattle.journal.specs.Format.{mark_size, header_size, is_marked, header_in, parsed}
+use Rattle.journal.specs.Journal.{account_in}
 use Rattle.journal.specs.Properties.{Progress, progress, fed_on, fed_pieces, joined, at_start, InPieces}
 use Rattle.journal.proofs.Headers.{Good, bad-long}
 use Rattle.journal.proofs.Headers.{good as good-header}
-use Rattle.journal.proofs.Whole.{fed-within, whole-concluded}
+use Rattle.journal.proofs.Whole.{fed-within, whole-concluded, whole-printed}
 
 all_append : (c : After State) (first second : List Transaction) → all_transacted c (first ++ second) ≡ all_transacted (all_transacted c first) second
 unfolding all_transacted
@@ -161,20 +161,28 @@ bad_stays p piece b =
     let e : p.reading.stage ≡ stage.Bad = bad-stage p.reading.stage b in
     ap (λ (s : Stage). (by_stage s p.reading.replay (p.unused ++ piece)).reading) e ∙ ap (λ (s : Stage). reading_at s p.reading.replay) (sym e)
 
-bad_is_printed : (reading : Reading) (unused : ℕ) (out : List ℕ) → is_bad reading ≡ true → concluded reading unused out ≡ shown bad_journal out
-unfolding concluded concluded_at
-bad_is_printed reading unused out b =
-    if-cases (λ (w : Written). w ≡ shown bad_journal out) _ _ _
-    (λ _. ap (λ (s : Stage). concluded_at s reading.replay out) (bad-stage reading.stage b)) (λ _. refl)
+bad_has_none : (reading : Reading) (unused : ℕ) → is_bad reading ≡ true → concluded reading unused ≡ None
+unfolding concluded
+bad_has_none reading unused b =
+    if-cases (λ (a : Option Account). a ≡ None) _ _ _
+    (λ _. ap (λ (s : Stage). account_at s reading.replay) (bad-stage reading.stage b)) (λ _. refl)
 
-printed_in_the_end : (pieces : List (List ℕ)) (out : List ℕ) →
+account_in_the_end : (pieces : List (List ℕ)) →
     let p : Progress = fed_pieces at_start pieces in
-    concluded p.reading (length p.unused) out ≡ shown (output (joined pieces)) out
-printed_in_the_end pieces out =
+    concluded p.reading (length p.unused) ≡ account_in (parsed (joined pieces))
+account_in_the_end pieces =
     let journal : List ℕ = joined pieces in
     let p : Progress = fed_on at_start journal in
-    ap (λ (q : Progress). concluded q.reading (length q.unused) out) (any_pieces pieces)
-    ∙ (ap (λ (n : ℕ). concluded p.reading n out) (length-drop _ journal) ∙ whole-concluded journal out)
+    ap (λ (q : Progress). concluded q.reading (length q.unused)) (any_pieces pieces)
+    ∙ (ap (λ (n : ℕ). concluded p.reading n) (length-drop _ journal) ∙ whole-concluded journal)
 
 pub in_pieces : InPieces
-in_pieces = record { two_pieces = two_pieces; any_pieces = any_pieces; bad_stays = bad_stays; bad_is_printed = bad_is_printed; printed_in_the_end = printed_in_the_end }
+in_pieces =
+    record {
+      two_pieces = two_pieces;
+      any_pieces = any_pieces;
+      bad_stays = bad_stays;
+      bad_has_none = bad_has_none;
+      account_in_the_end = account_in_the_end;
+      printed_in_the_end = whole-printed;
+    }

@@ -15,6 +15,8 @@ use Rattle.journal.proofs.reading.Reading.is_bad.Kinds as is-bad-kinds
 use Rattle.journal.proofs.reading.Reading.is_bad.Reads as is-bad-reads
 use Rattle.journal.proofs.reading.Reading.conclude.Kinds as conclude-kinds
 use Rattle.journal.proofs.reading.Reading.conclude.Reads as conclude-reads
+use Rattle.journal.proofs.reading.print_outcome.Kinds as print-outcome-kinds
+use Rattle.journal.proofs.reading.print_outcome.Reads as print-outcome-reads
 use Rattle.journal.proofs.reading.print_journal.Kinds as print-journal-kinds
 use Rattle.journal.proofs.reading.print_journal.Reads as print-journal-reads
 
@@ -30,8 +32,11 @@ feed-unique κs a r₁ r₂ w₁ w₂ p q = (ap (λ (x : Fed). x.used) (one-resu
 pub is-bad-unique : OneResult 1 is-bad-kinds.ps is-bad-kinds.r is-bad-reads.Learnt
 is-bad-unique κs a r₁ r₂ w₁ w₂ p q = (one-result p q, refl)
 
-pub conclude-unique : OneResult 2 conclude-kinds.ps conclude-kinds.r conclude-reads.Learnt
-conclude-unique κs a r₁ r₂ w₁ w₂ p q = (ap (λ (x : Written). x.size) (one-result p q), ap (λ (x : Written). (tt, (tt, (x.out, tt)))) (one-result p q))
+pub conclude-unique : OneResult 1 conclude-kinds.ps conclude-kinds.r conclude-reads.Learnt
+conclude-unique κs a r₁ r₂ w₁ w₂ p q = (one-result p q, refl)
+
+pub print-outcome-unique : OneResult 1 print-outcome-kinds.ps print-outcome-kinds.r print-outcome-reads.Learnt
+print-outcome-unique κs a r₁ r₂ w₁ w₂ p q = (ap (λ (x : Written). x.size) (one-result p q), ap (λ (x : Written). (tt, (x.out, tt))) (one-result p q))
 
 pub print-journal-unique : OneResult 2 print-journal-kinds.ps print-journal-kinds.r print-journal-reads.Learnt
 print-journal-unique κs a r₁ r₂ w₁ w₂ p q = (ap (λ (x : Written). x.size) (one-result p q), ap (λ (x : Written). (tt, (x.out, tt))) (one-result p q))

@@ -1,18 +1,18 @@
--- A whole journal that is fed at once and concluded gives its output.
+-- A whole journal that is fed at once and concluded gives its account, and its output is printed of that.
 -- Assumes nothing.
 use Prim.Native.Nat.{ℕ, ◌+◌, ◌-◌, ◌≤◌, ◌<◌}
 use mathlib.Core.Bool.{Bool, true, false}
 use mathlib.Core.List.{List, [], ◌∷◌}
-use mathlib.Core.Path.{◌≡◌, refl, sym, ap, subst, ◌∙◌}
+use mathlib.Core.Path.{◌≡◌, refl, ap, ◌∙◌}
 use native.Mathlib.Omega.{arith}
 use lib.Dec.{eqb}
 use lib.ListN.{length, drop, length-drop}
 use borrow.Author.Tests.{eqb-true, eqb-false, eq-eqb, ne_eqb}
 use Rattle.prelude.specs.After.{After, after}
-use Rattle.std.specs.Prelude.{Result, Ok, Err}
+use Rattle.std.specs.Prelude.{Result, Ok, Err, Option, None, Some}
 use Rattle.prelude.specs.Choice.{when◌then◌else◌}
 use Rattle.prelude.proofs.Tests.{if-true, if-false, if-cases}
-use Rattle.printout.specs.Printout.{Written, printout, shown, printed}
+use Rattle.printout.specs.Printout.{shown, printed}
 use Rattle.record.specs.Records.{Records, records_in}
 use Rattle.record.specs.Transaction.{Transaction}
 use Rattle.record.proofs.Records.{Within, used-within}
@@ -32,9 +32,9 @@ use Rattle.journal.specs.declared.header.HeaderError.TheVariants as header
 use Rattle.journal.specs.declared.reading.Reading.{Reading}
 use Rattle.journal.specs.declared.reading.Stage.{Stage}
 use Rattle.journal.specs.declared.reading.Stage.TheVariants as stage
-use Rattle.journal.specs.Feeding.{Fed, records_fed, by_header, by_stage, fed, reading_at, stage_after, started, concluded_at, concluded}
-use Rattle.journal.specs.Format.{header_size, header_in, bad, good, with_header, parsed, bad_journal}
-use Rattle.journal.specs.Journal.{account_after, output_of, output}
+use Rattle.journal.specs.Feeding.{Fed, records_fed, by_header, by_stage, fed, reading_at, stage_after, started, account_at, concluded}
+use Rattle.journal.specs.Format.{Journal, header_size, header_in, bad, good, with_header, parsed}
+use Rattle.journal.specs.Journal.{account_after, account_in, text_of, output, outcome_printed}
 use Rattle.journal.proofs.Headers.{Good}
 use Rattle.journal.proofs.Headers.{good as good-header}
 
@@ -48,20 +48,19 @@ all_sound c (t ∷ rest) formed h =
     all_sound (state_after (transacted c.result c.store c.settings t)) rest left.account_stays_formed (left.state_stays_sound h)
 
 -- not all of it is used: bad, whatever was read
-concluded-left : (reading : Reading) (unused : ℕ) (out : List ℕ) → (unused ≡ 0 → ⊥) → concluded reading unused out ≡ shown bad_journal out
+concluded-left : (reading : Reading) (unused : ℕ) → (unused ≡ 0 → ⊥) → concluded reading unused ≡ None
 unfolding concluded
-concluded-left reading unused out h = if-false _ _ _ (ne_eqb unused 0 h)
+concluded-left reading unused h = if-false _ _ _ (ne_eqb unused 0 h)
 
 -- all of it is used, and no link byte was bad
-concluded-all : (bad_link : Bool) (replay : Replay) (unused : ℕ) (out : List ℕ) → (bad_link ≡ true → ⊥) → unused ≡ 0
-    → account_sound replay.state.account ≡ true
-    → concluded (reading_at (stage_after (stop_of bad_link)) replay) unused out ≡ shown (printout replay.state.account) out
-unfolding concluded concluded_at printed when◌then◌else◌
-concluded-all true replay unused out h e s = absurd (h refl)
-concluded-all false replay unused out h e s = if-true _ _ _ (eq-eqb unused 0 e) ∙ if-true _ _ _ s
+concluded-all : (bad_link : Bool) (replay : Replay) (unused : ℕ) → (bad_link ≡ true → ⊥) → unused ≡ 0
+    → concluded (reading_at (stage_after (stop_of bad_link)) replay) unused ≡ Some replay.state.account
+unfolding concluded
+concluded-all true replay unused h e = absurd (h refl)
+concluded-all false replay unused h e = if-true _ _ _ (eq-eqb unused 0 e)
 
 -- the bytes behind a good header
-module _ (maximum : ℕ) (journal : List ℕ) (out : List ℕ) (g : Good journal maximum) where
+module _ (maximum : ℕ) (journal : List ℕ) (g : Good journal maximum) where
   abbrev rest : List ℕ
   rest = drop header_size journal
 
@@ -91,47 +90,64 @@ module _ (maximum : ℕ) (journal : List ℕ) (out : List ℕ) (g : Good journal
   within = used-within 0 rest (omega arith)
 
   all-or-left : (t : Bool) → eqb records.used (length rest) ≡ t
-      → concluded (records_fed left).reading (length journal - left.stopped.at) out ≡ shown (output_of (when t then good maximum records.transactions else bad)) out
+      → concluded (records_fed left).reading (length journal - left.stopped.at) ≡ account_in (when t then good maximum records.transactions else bad)
   unfolding when◌then◌else◌ records_taken
   all-or-left true e =
-      concluded-all records.bad_link left.replay _ out (λ b. not-below (eqb-true _ _ e) (within.left b)) none (subst (λ (a : Account). account_sound a ≡ true) (sym account-is) account-sound)
-      ∙ ap (λ (a : Account). shown (printout a) out) account-is
+      concluded-all records.bad_link left.replay _ (λ b. not-below (eqb-true _ _ e) (within.left b)) none
+      ∙ ap (λ (a : Account). Some a) account-is
     where
       not-below : records.used ≡ length rest → 0 + records.used < length rest → ⊥
       not-below e l = omega arith
 
       none : length journal - left.stopped.at ≡ 0
       none = let all : records.used ≡ length rest = eqb-true _ _ e in omega (arith, size, place)
-  all-or-left false e = concluded-left _ _ out (λ z. eqb-false _ _ e (same z size place within.within g.long))
+  all-or-left false e = concluded-left _ _ (λ z. eqb-false _ _ e (same z size place within.within g.long))
     where
       same : length journal - left.stopped.at ≡ 0 → length rest ≡ length journal - header_size → left.stopped.at ≡ header_size + records.used
           → 0 + records.used ≤ length rest → header_size ≤ length journal → records.used ≡ length rest
       same z size place w long = omega arith
 
-  records-concluded : concluded (records_fed left).reading (length journal - (records_fed left).used) out ≡ shown (output_of (with_header (Ok maximum) rest)) out
+  records-concluded : concluded (records_fed left).reading (length journal - (records_fed left).used) ≡ account_in (with_header (Ok maximum) rest)
   records-concluded = all-or-left (eqb records.used (length rest)) refl
 
-concluded-unread : (s : Stage) (r : Replay) (unused : ℕ) (out : List ℕ) → concluded_at s r out ≡ shown bad_journal out
-    → concluded (reading_at s r) unused out ≡ shown bad_journal out
+  -- whether all of it is used or not, what is printed is the output: the account is sound
+  records-printed : (out : List ℕ) → outcome_printed (account_in (with_header (Ok maximum) rest)) out ≡ shown (text_of (account_in (with_header (Ok maximum) rest))) out
+  unfolding printed
+  records-printed out =
+      if-cases (λ (j : Journal). outcome_printed (account_in j) out ≡ shown (text_of (account_in j)) out) (eqb records.used (length rest)) _ _
+      (λ _. if-true _ _ _ account-sound) (λ _. refl)
+
+concluded-unread : (s : Stage) (r : Replay) (unused : ℕ) → account_at s r ≡ None → concluded (reading_at s r) unused ≡ None
 unfolding concluded
-concluded-unread s r unused out e = if-cases (λ (w : Written). w ≡ shown bad_journal out) _ _ _ (λ _. e) (λ _. refl)
+concluded-unread s r unused e = if-cases (λ (a : Option Account). a ≡ None) _ _ _ (λ _. e) (λ _. refl)
 
 -- a whole journal, fed at once
-pub whole-concluded : (journal out : List ℕ) →
+pub whole-concluded : (journal : List ℕ) →
     let f : Fed = fed started journal in
-    concluded f.reading (length journal - f.used) out ≡ shown (output journal) out
-unfolding by_stage by_header concluded_at output parsed
-whole-concluded journal out = by-header (header_in journal) refl
+    concluded f.reading (length journal - f.used) ≡ account_in (parsed journal)
+unfolding by_stage by_header parsed
+whole-concluded journal = by-header (header_in journal) refl
   where
     P : Result ℕ HeaderError → Type 0
     P h =
         let f : Fed = by_header h (fresh_replay max_maximum) journal in
-        concluded f.reading (length journal - f.used) out ≡ shown (output_of (with_header h (drop header_size journal))) out
+        concluded f.reading (length journal - f.used) ≡ account_in (with_header h (drop header_size journal))
 
     by-header : (h : Result ℕ HeaderError) → header_in journal ≡ h → P h
-    by-header (Err header.Cut) e = concluded-unread _ _ _ out refl
-    by-header (Err header.Bad) e = concluded-unread _ _ _ out refl
-    by-header (Ok maximum) e = records-concluded maximum journal out (good-header journal maximum e)
+    by-header (Err header.Cut) e = concluded-unread _ _ _ refl
+    by-header (Err header.Bad) e = concluded-unread _ _ _ refl
+    by-header (Ok maximum) e = records-concluded maximum journal (good-header journal maximum e)
+
+-- what is printed of its account is its output
+pub whole-printed : (journal out : List ℕ) → outcome_printed (account_in (parsed journal)) out ≡ shown (output journal) out
+unfolding parsed output
+whole-printed journal out = by-header (header_in journal) refl
+  where
+    by-header : (h : Result ℕ HeaderError) → header_in journal ≡ h
+        → outcome_printed (account_in (with_header h (drop header_size journal))) out ≡ shown (text_of (account_in (with_header h (drop header_size journal)))) out
+    by-header (Err header.Cut) e = refl
+    by-header (Err header.Bad) e = refl
+    by-header (Ok maximum) e = records-printed maximum journal (good-header journal maximum e) out
 
 -- what is used of a part is there
 records-fed-within : (r : Replay) (before : ℕ) (part : List ℕ) → before ≤ length part → (records_fed (replayed r before (drop before part))).used ≤ length part

@@ -1,13 +1,13 @@
--- A journal that is fed in pieces: what one call takes of a piece, and the outcome in the end (manual 9.3, 9.4).
-use Rattle.std.specs.Prelude.{ℕ, Bool, true, false, List, Result, Ok, Err, eqb, drop}
+-- A journal that is fed in pieces: what one call takes of a piece, and the account in the end (manual 9.3, 9.4).
+use Rattle.std.specs.Prelude.{ℕ, Bool, true, false, List, Result, Ok, Err, Option, None, Some, eqb, drop}
 use Rattle.prelude.specs.Choice.{when◌then◌else◌}
-use Rattle.printout.specs.Printout.{Written, shown, printed}
 use Rattle.record.specs.declared.Stop.{Stop}
 use Rattle.record.specs.declared.Stop.TheVariants as stop
+use Rattle.state.specs.declared.Account.{Account}
 use Rattle.state.specs.State.{max_maximum}
 use Rattle.translator.specs.declared.records.Replay.{Replay}
 use Rattle.translator.specs.Replay.{Replayed, fresh_replay, replayed}
-use Rattle.journal.specs.Format.{header_size, header_in, bad_journal}
+use Rattle.journal.specs.Format.{header_size, header_in}
 use Rattle.journal.specs.declared.header.HeaderError.{HeaderError}
 use Rattle.journal.specs.declared.header.HeaderError.TheVariants as header
 use Rattle.journal.specs.declared.reading.Reading.{Reading}
@@ -66,12 +66,12 @@ is_bad_stage stage.Bad = true
 abbrev pub is_bad : Reading → Bool
 is_bad reading = is_bad_stage reading.stage
 
--- the outcome where no byte is left (manual 9.3, 9.4)
-unfoldable pub concluded_at : Stage → Replay → List ℕ → Written
-concluded_at stage.Start replay out = shown bad_journal out
-concluded_at stage.Records replay out = printed replay.state.account out
-concluded_at stage.Bad replay out = shown bad_journal out
+-- the account where no byte is left, if there is one (manual 9.3, 9.4)
+abbrev pub account_at : Stage → Replay → Option Account
+account_at stage.Start replay = None
+account_at stage.Records replay = Some replay.state.account
+account_at stage.Bad replay = None
 
 -- a journal of which a byte is left is bad: what it begins is cut (manual 9.3)
-unfoldable pub concluded : Reading → ℕ → List ℕ → Written
-concluded reading unused out = when eqb unused 0 then concluded_at reading.stage reading.replay out else shown bad_journal out
+unfoldable pub concluded : Reading → ℕ → Option Account
+concluded reading unused = when eqb unused 0 then account_at reading.stage reading.replay else None

@@ -1,7 +1,7 @@
 -- The outcome of a whole journal (manual 9.3, 9.4).
-use Rattle.std.specs.Prelude.{ℕ, List}
+use Rattle.std.specs.Prelude.{ℕ, List, Option, None, Some}
 use Rattle.prelude.specs.After.{after}
-use Rattle.printout.specs.Printout.{printout}
+use Rattle.printout.specs.Printout.{Written, printout, shown, printed}
 use Rattle.record.specs.Transaction.{Transaction}
 use Rattle.state.specs.declared.Account.{Account}
 use Rattle.state.specs.State.{fresh_state}
@@ -12,11 +12,21 @@ use Rattle.journal.specs.Format.{Journal, bad, good, parsed, bad_journal}
 abbrev pub account_after : ℕ → List Transaction → Account
 account_after maximum transactions = (all_transacted (after (fresh_state maximum) empty_store settings_at_start) transactions).result.account
 
--- what is printed of a journal: its account, or that it is bad (manual 9.3, 9.4)
-abbrev pub output_of : Journal → List ℕ
-output_of bad = bad_journal
-output_of (good maximum transactions) = printout (account_after maximum transactions)
+-- the account of a journal, which a bad one has not (manual 9.3, 9.4)
+abbrev pub account_in : Journal → Option Account
+account_in bad = None
+account_in (good maximum transactions) = Some (account_after maximum transactions)
 
--- the same, by its bytes (manual 9.3, 9.4)
+-- what is printed: the account, or that the journal is bad (manual 9.3, 9.4)
+abbrev pub text_of : Option Account → List ℕ
+text_of None = bad_journal
+text_of (Some account) = printout account
+
+-- of a whole journal, by its bytes (manual 9.3, 9.4)
 unfoldable pub output : List ℕ → List ℕ
-output bytes = output_of (parsed bytes)
+output bytes = text_of (account_in (parsed bytes))
+
+-- printed where there is room: an account as `printed` of `printout` has it, which must be sound (manual 9.4)
+abbrev pub outcome_printed : Option Account → List ℕ → Written
+outcome_printed None out = shown bad_journal out
+outcome_printed (Some account) out = printed account out

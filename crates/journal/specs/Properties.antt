@@ -1,13 +1,13 @@
 -- What follows from the definitions, whatever the bytes (manual 9.1 to 9.4).
-use Rattle.std.specs.Prelude.{ℕ, ◌+◌, ◌≤◌, ◌<◌, true, false, List, [], ◌∷◌, ◌++◌, ◌≡◌, length, get_or, drop}
+use Rattle.std.specs.Prelude.{ℕ, ◌+◌, ◌≤◌, ◌<◌, true, false, List, [], ◌∷◌, ◌++◌, None, ◌≡◌, length, get_or, drop}
 use Rattle.printout.specs.Printout.{shown}
 use Rattle.record.specs.Records.{head_size}
 use Rattle.record.specs.Transaction.{Transaction}
 use Rattle.state.specs.State.{max_maximum}
 use Rattle.journal.specs.declared.reading.Reading.{Reading}
 use Rattle.journal.specs.Feeding.{Fed, fed, started, is_bad, concluded}
-use Rattle.journal.specs.Format.{good, journal_of, parsed, bad_journal}
-use Rattle.journal.specs.Journal.{output}
+use Rattle.journal.specs.Format.{good, journal_of, parsed}
+use Rattle.journal.specs.Journal.{account_in, output, outcome_printed}
 
 -- exactly what a writer writes is read, and read as what was written: any other bytes are bad (manual 9.1, 9.2, 9.3)
 pub record RoundTrip : Type 0 where
@@ -55,12 +55,13 @@ AreBytes bytes = (place : ℕ) → get_or bytes place 0 < 256
 abbrev pub LessThanARecord : Type 0
 LessThanARecord = (reading : Reading) (part : List ℕ) → AreBytes part → is_bad (fed reading part).reading ≡ false → length part < (fed reading part).used + max_record
 
--- However a journal is cut into pieces, it is read as the whole is: the same replay and bytes left. What is bad stays bad, and what is printed in the end is the whole journal's output (manual 9.3, 9.4).
+-- However a journal is cut into pieces, it is read as the whole is: the same replay and bytes left. What is bad stays bad, and in the end comes the whole journal's account, or none where it is bad; what is printed of that is the journal's output (manual 9.3, 9.4).
 pub record InPieces : Type 0 where
   pub two_pieces : (p : Progress) (piece next : List ℕ) → fed_on (fed_on p piece) next ≡ fed_on p (piece ++ next)
   pub any_pieces : (pieces : List (List ℕ)) → fed_pieces at_start pieces ≡ fed_on at_start (joined pieces)
   pub bad_stays : (p : Progress) (piece : List ℕ) → is_bad p.reading ≡ true → (fed_on p piece).reading ≡ p.reading
-  pub bad_is_printed : (reading : Reading) (unused : ℕ) (out : List ℕ) → is_bad reading ≡ true → concluded reading unused out ≡ shown bad_journal out
-  pub printed_in_the_end : (pieces : List (List ℕ)) (out : List ℕ) →
+  pub bad_has_none : (reading : Reading) (unused : ℕ) → is_bad reading ≡ true → concluded reading unused ≡ None
+  pub account_in_the_end : (pieces : List (List ℕ)) →
       let p : Progress = fed_pieces at_start pieces in
-      concluded p.reading (length p.unused) out ≡ shown (output (joined pieces)) out
+      concluded p.reading (length p.unused) ≡ account_in (parsed (joined pieces))
+  pub printed_in_the_end : (bytes out : List ℕ) → outcome_printed (account_in (parsed bytes)) out ≡ shown (output bytes) out

@@ -10,10 +10,10 @@ const MARK_SIZE: usize = 5;
 const MARK: [u8; MARK_SIZE] = [b'T', b'C', b'O', 1, 0];
 
 // The mark and the maximum.
-pub const HEADER_SIZE: usize = MARK_SIZE + 1;
+pub(crate) const HEADER_SIZE: usize = MARK_SIZE + 1;
 
 #[derive(Clone, Copy)]
-pub enum HeaderError {
+pub(crate) enum HeaderError {
     // Fewer bytes than a header has.
     Cut,
     // Another mark, or a maximum that is not allowed.
@@ -21,7 +21,7 @@ pub enum HeaderError {
 }
 
 // The fragment maximum of the header that the bytes begin with.
-pub fn read_header(bytes: &[u8]) -> Result<u32, HeaderError>
+pub(crate) fn read_header(bytes: &[u8]) -> Result<u32, HeaderError>
     ensures { result ≡ header_in bytes.now }
 {
     if bytes.len() < HEADER_SIZE {

@@ -1,19 +1,20 @@
 // A journal that is read in pieces.
-#![tactic(auto, using(prelude::proofs::Tests::tests), unfolding(crate::specs::Feeding::by_header, crate::specs::Feeding::by_stage, crate::specs::Feeding::concluded_at, crate::specs::Feeding::concluded))]
+#![tactic(auto, using(prelude::proofs::Tests::tests), unfolding(crate::specs::Feeding::by_header, crate::specs::Feeding::by_stage, crate::specs::Feeding::concluded))]
 
 ghost use Rattle.std.specs.Prelude.{◌≡◌, drop};
 ghost use Rattle.printout.specs.Printout.{written, shown};
 ghost use Rattle.translator.specs.Replay.{replayed};
 ghost use Rattle.journal.specs.Feeding.{by_header, concluded, fed, fed_to, is_bad, records_fed, stage_after, started};
-ghost use Rattle.journal.specs.Format.{bad_journal, header_in};
-ghost use Rattle.journal.specs.Journal.{output};
+ghost use Rattle.journal.specs.Format.{header_in};
+ghost use Rattle.journal.specs.Journal.{outcome_printed, output};
 
 use crate::header::{HEADER_SIZE, HeaderError, read_header};
 use record::Stop;
+use state::Account;
 use translator::Replay;
 
 #[derive(Clone, Copy)]
-pub enum Stage {
+enum Stage {
     // The header is still to come.
     Start,
     // The header was good, and so were the records so far.
@@ -92,18 +93,18 @@ impl Reading {
         }
     }
 
-    // Prints the outcome of a journal that was fed to its end, when `unused` bytes are left: its
-    // account as `printout::print` does, or that it is bad. A count and no Option, as there.
-    pub fn conclude(&self, unused: usize, out: &mut [u8]) -> usize
-        ensures { written result out.new ≡ concluded self.now unused out.old }
+    // The account of a journal that was fed to its end, when `unused` bytes are left. A bad journal
+    // has none.
+    pub fn conclude(&self, unused: usize) -> Option<Account>
+        ensures { result ≡ concluded self.now unused }
     {
         if unused != 0 {
-            return print_bad(out);
+            return None;
         }
         match self.stage {
-            Stage::Start => print_bad(out),
-            Stage::Records => printout::print(self.replay.account(), out),
-            Stage::Bad => print_bad(out),
+            Stage::Start => None,
+            Stage::Records => Some(self.replay.account()),
+            Stage::Bad => None,
         }
     }
 }
@@ -118,19 +119,23 @@ fn stage_after(stop: Stop) -> Stage
     }
 }
 
-// Prints that a journal is bad, as `printout::print` does an account.
-fn print_bad(out: &mut [u8]) -> usize
-    ensures { written result out.new ≡ shown bad_journal out.old }
+// Prints the account of a journal, or that the journal is bad, at the start of out and answers how many
+// bytes that took, or answers 0 and writes nothing where out has fewer: a count and no Option, as of
+// `printout::print`.
+pub fn print_outcome(outcome: Option<Account>, out: &mut [u8]) -> usize
+    ensures { written result out.new ≡ outcome_printed outcome out.old }
 {
-    printout::show(b"bad journal\n", out)
+    match outcome {
+        Some(account) => printout::print(account, out),
+        None => printout::show(b"bad journal\n", out),
+    }
 }
 
-// Prints the outcome of a whole journal at the start of out and answers how many bytes that took, or
-// answers 0 and writes nothing where out has fewer: a count and no Option, as of `printout::print`.
+// Prints the outcome of a whole journal, as `print_outcome` does.
 pub fn print_journal(journal: &[u8], out: &mut [u8]) -> usize
     ensures { written result out.new ≡ shown (output journal.now) out.old }
 {
     let mut reading = Reading::start();
     let used = reading.feed(journal);
-    reading.conclude(journal.len() - used, out)
+    print_outcome(reading.conclude(journal.len() - used), out)
 }

@@ -2,7 +2,7 @@
 #![tactic(auto)]
 
 ghost use Rattle.std.specs.Prelude.{◌≡◌};
-ghost use Rattle.outcome.specs.Outcome.{sent_length_of};
+ghost use Rattle.outcome.specs.Outcome.{cause_number, number_of, reply_to, sent_length_of};
 
 use settings::Refusal;
 
@@ -55,9 +55,6 @@ pub struct Reply {
 
 // The outcome in numbers.
 impl From<Outcome> for Reply {
-    ghost use Rattle.std.specs.Prelude.{◌≡◌};
-    ghost use Rattle.outcome.specs.Outcome.{reply_to};
-
     ghost from_gives = { λ outcome reply. reply ≡ reply_to outcome };
 
     fn from(outcome: Outcome) -> Reply {
@@ -79,9 +76,6 @@ fn sent_length(outcome: Outcome) -> u32
 
 // The answer number.
 impl From<Outcome> for u32 {
-    ghost use Rattle.std.specs.Prelude.{◌≡◌};
-    ghost use Rattle.outcome.specs.Outcome.{number_of};
-
     ghost from_gives = { λ outcome number. number ≡ number_of outcome };
 
     fn from(outcome: Outcome) -> u32 {
@@ -101,9 +95,6 @@ impl From<Outcome> for u32 {
 
 // The answer number of a packet that is discarded.
 impl From<Cause> for u32 {
-    ghost use Rattle.std.specs.Prelude.{◌≡◌};
-    ghost use Rattle.outcome.specs.Outcome.{cause_number};
-
     ghost from_gives = { λ cause number. number ≡ cause_number cause };
 
     fn from(cause: Cause) -> u32 {

@@ -3,8 +3,7 @@
 
 ghost use Rattle.std.specs.Prelude.{◌≡◌};
 ghost use Rattle.prelude.specs.Parts.{slice_of};
-ghost use Rattle.packet.specs.Store.{filled};
-ghost use Rattle.packet.specs.Store.{sent_length, shown};
+ghost use Rattle.packet.specs.Store.{filled, sent_length, shown};
 
 // The most bytes of a packet.
 pub const MAX_PACKET: u64 = 1536;

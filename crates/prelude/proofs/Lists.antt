@@ -8,7 +8,7 @@ use mathlib.Core.Path.{◌≡◌, refl, sym, ap, ◌∙◌}
 use native.Mathlib.Nat.{add-zero, add-suc, suc-add}
 use native.Mathlib.Omega.{arith}
 use lib.ListN.{length, get_or, take, drop, length-take, length-drop, length-append, drop_of_length-le, get_or-append}
-use lib.Seq.{get_or-take, get_or-drop, get_or-append-add, take-add, take_at, take-append_seam, length-take-le, drop_at, drop-drop, drop-cons, drop-append-add}
+use lib.Seq.{take-length, get_or-take, get_or-drop, get_or-append-add, take-add, take_at, take-append_seam, length-take-le, drop_at, drop-drop, drop-cons, drop-append-add}
 use borrow.Rule.Slice.PartMut.{put_mid}
 use Rattle.prelude.specs.Choice.{when◌then◌else◌}
 use Rattle.prelude.specs.Parts.{part, put, ChangesOnly}
@@ -44,6 +44,16 @@ drop_past n m xs ys e = rw (← e) (drop-append-add xs ys m)
 pub copied-over-part : (bytes piece copy : List ℕ) (at n : ℕ) → n ≡ length piece → copy ≡ piece → put_mid at n bytes copy ≡ put bytes at piece
 unfolding put
 copied-over-part bytes piece copy at n h e = rw (h, e, drop-drop (length piece) at bytes)
+
+-- a piece put at the front of the tail of a slice that starts at a place
+pub put-in-tail : (bytes piece copy : List ℕ) (at : ℕ) → at ≤ length bytes → copy ≡ put (take (length bytes - at) (drop at bytes)) 0 piece
+    → put_mid at (length bytes - at) bytes copy ≡ put bytes at piece
+unfolding put
+put-in-tail bytes piece copy at h e =
+    let tail : take (length bytes - at) (drop at bytes) ≡ drop at bytes = rw (← length-drop at bytes) (take-length (drop at bytes)) in
+    let none : drop (length bytes - at) (drop at bytes) ≡ [] = drop_of_length-le (drop at bytes) (omega (arith, length-drop at bytes)) in
+    let front : copy ≡ piece ++ drop (at + length piece) bytes = e ∙ rw (tail, native.Mathlib.Nat.zero-add (length piece), drop-drop (length piece) at bytes) refl in
+    rw (none, front, append-nil) refl
 
 pub length-put : (bytes piece : List ℕ) (at : ℕ) → at + length piece ≤ length bytes → length (put bytes at piece) ≡ length bytes
 unfolding put

@@ -1,9 +1,8 @@
--- What closes a return of a chain of tests, against a definition that tests in the same order: `search tests`.
--- Where a test is a call, its `ensures` goes into the list, turned round: `search (tests, sym c.before.is-sound.ensures)`.
+-- Laws on a choice by a test, and `tests`, which closes a return of a chain of tests against a definition that tests in the same order.
+-- Where a test is a call, its `ensures` goes into the list, turned round: `search (tests, sym c.is_allowed.ensures)`.
 -- Assumes nothing.
 use Prim.Native.Nat.{ℕ}
 use mathlib.Core.Bool.{Bool, true, false}
-use mathlib.Core.Logic.{◌⊎◌, inl, inr}
 use mathlib.Core.Path.{◌≡◌, refl, sym}
 use lib.Dec.{eqb}
 use borrow.Author.Rules.{rules}
@@ -29,10 +28,6 @@ pub if-cases : {A : Type 0} (P : A → Type 0) (t : Bool) (a b : A) → (t ≡ t
 unfolding when◌then◌else◌
 if-cases P true a b p q = p refl
 if-cases P false a b p q = q refl
-
-pub true-unless-false : (t : Bool) → (t ≡ false → ⊥) → t ≡ true
-true-unless-false true h = refl
-true-unless-false false h = absurd (h refl)
 
 -- the parts of a test, where the whole holds
 pub if-not-first : (t u : Bool) → (when t then false else u) ≡ true → t ≡ false
@@ -68,13 +63,5 @@ eqb-iff a b c d to from = by-test (eqb a b) refl
     by-test : (t : Bool) → eqb a b ≡ t → t ≡ eqb c d
     by-test true e = sym (eq-eqb c d (to (eqb-true a b e)))
     by-test false e = sym (ne_eqb c d (λ q. eqb-false a b e (from q)))
-
--- a number is another, or it is not
-pub same_or_not : (m n : ℕ) → (m ≡ n) ⊎ (m ≡ n → ⊥)
-same_or_not m n = by-test (eqb m n) refl
-  where
-    by-test : (t : Bool) → eqb m n ≡ t → (m ≡ n) ⊎ (m ≡ n → ⊥)
-    by-test true e = inl (eqb-true m n e)
-    by-test false e = inr (eqb-false m n e)
 
 pub ruleset tests = (rules, if-true, if-false, lt-ltb, le-ltb, le-leb, lt-leb, eq-eqb, ne_eqb, eqb-other, not-true, not-false)

@@ -120,21 +120,18 @@ pub record Within (skipped : ℕ) (bytes : List ℕ) (records : Records) : Type 
   pub within : skipped + records.used ≤ length bytes
   pub left : records.bad_link ≡ true → skipped + records.used < length bytes
 
-not-true-false : {A : Type 0} → false ≡ true → A
-not-true-false e = let z : ◌≡◌ {A = ℕ} 0 1 = cc in absurd (omega arith)
-
 pub used-within : (skipped : ℕ) (bytes : List ℕ) → skipped ≤ length bytes → Within skipped bytes (records_after skipped bytes)
 unfolding records_after
 used-within (suc skipped) [] h = absurd (not-suc-le-zero h)
 used-within (suc skipped) (byte ∷ rest) h =
     let w : Within skipped rest (records_after skipped rest) = used-within skipped rest (le_of_suc-le-suc h) in
     record { within = omega arith; left = λ e. omega (arith, w.left e) }
-used-within zero [] h = record { within = omega arith; left = not-true-false }
-used-within zero (command ∷ []) h = record { within = omega arith; left = not-true-false }
+used-within zero [] h = record { within = omega arith; left = λ e. absurd (cc) }
+used-within zero (command ∷ []) h = record { within = omega arith; left = λ e. absurd (cc) }
 used-within zero (command ∷ link ∷ []) h = record { within = omega arith; left = λ _. omega arith }
 used-within zero (command ∷ link ∷ size ∷ rest) h =
     if-cases P _ _ _ (λ _. record { within = omega arith; left = λ _. omega arith })
-    (λ _. if-cases P _ _ _ (λ _. record { within = omega arith; left = not-true-false })
+    (λ _. if-cases P _ _ _ (λ _. record { within = omega arith; left = λ e. absurd (cc) })
     (λ fits. whole-within (ltb-false _ _ fits) (used-within size rest (ltb-false _ _ fits))))
   where
     P : Records → Type 0

@@ -1,4 +1,4 @@
-// The records of a journal.
+// A transaction as one value, and the records of a journal.
 #![tactic(auto)]
 
 mod transaction;

@@ -1,4 +1,4 @@
--- The code of a refusal is no code of none.
+-- The code of a refusal is not the code for no reason.
 -- Assumes nothing.
 use Prim.Native.Nat.{◌<◌}
 use native.Mathlib.Omega.{arith}

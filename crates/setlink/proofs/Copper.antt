@@ -2,6 +2,7 @@
 -- Assumes nothing.
 use Prim.Native.Nat.{ℕ, ◌+◌, ◌≤◌, ◌<◌}
 use Rattle.std.proofs.Math.Bool.{or-false}
+use Rattle.std.proofs.lemmas.Bool.{false_from_ne_true, true_from_ne_false}
 use Rattle.std.proofs.lemmas.List.Folds.{list_any_at}
 use mathlib.Core.Bool.{Bool, true, false, true≢false}
 use mathlib.Core.Path.{◌≡◌, refl, sym, ap, ◌∙◌}
@@ -12,7 +13,7 @@ use borrow.Author.Tests.{ltb-false, eqb-true, eqb-false}
 use Rattle.prelude.specs.Bits.{bits, is_set}
 use Rattle.prelude.specs.Choice.{when◌then◌else◌, ◌and◌}
 use Rattle.prelude.proofs.Bits.{bits-add}
-use Rattle.prelude.proofs.Tests.{if-true, if-congruence, if-cases, true-unless-false}
+use Rattle.prelude.proofs.Tests.{if-true, if-congruence, if-cases}
 use Rattle.setlink.specs.declared.Decision.{Decision}
 use Rattle.setlink.specs.declared.Media.{Media}
 use Rattle.setlink.specs.declared.Media.TheVariants.{Copper, Fibre}
@@ -20,10 +21,6 @@ use Rattle.setlink.specs.declared.Pair.{Pair}
 use Rattle.setlink.specs.Word.{speed10, speed100, speed1000, speed10g, half_duplex, full_duplex, no_speed, speeds, pairs, takes, fits, any_fits}
 use Rattle.setlink.specs.Decide.{no_reason, invalid_parameter, host_conflict, media_conflict, parameter_conflict, speed_conflict, negotiated_reason, forced_reason, parameter_reason, reason_before_media, media_reason, media_reason_on_fibre, reason, settled, decided}
 use Rattle.setlink.specs.Copper.{reason_by_all_checks, decided_by_all_checks, LeftOutOnCopper}
-
-false-unless-true : (t : Bool) → (t ≡ true → ⊥) → t ≡ false
-false-unless-true true h = absurd (h refl)
-false-unless-true false h = refl
 
 -- what is read past the end of the table
 abbrev no_pair : Pair
@@ -49,7 +46,7 @@ module _ (word : ℕ) where
   none-fits-at : (i : ℕ) → i < length pairs → any_fits Copper word pairs ≡ false → fits Copper word (get_or pairs i no_pair) ≡ false
   unfolding any_fits
   none-fits-at i h none =
-      false-unless-true _ (λ fit. true≢false (sym (list_any_at (fits Copper word) pairs i no_pair h fit) ∙ none))
+      false_from_ne_true _ (λ fit. true≢false (sym (list_any_at (fits Copper word) pairs i no_pair h fit) ∙ none))
 
   lacks-one-at : (i : ℕ) → i < 5 → any_fits Copper word pairs ≡ false → bits (get_or pairs i no_pair).speed 1 word + bits (get_or pairs i no_pair).duplex 1 word ≤ 1
   lacks-one-at i h none = lacks-one (get_or pairs i no_pair) (none-fits-at i h none)
@@ -57,13 +54,13 @@ module _ (word : ℕ) where
   -- half duplex fits with a speed below 1000, which are the pairs 0 and 2
   half-fits : 0 < speeds word → bits half_duplex 1 word ≡ 1 → bits speed1000 1 word ≡ 0 → bits speed10g 1 word ≡ 0 → any_fits Copper word pairs ≡ true
   half-fits speed half not-1000 not-10G =
-      true-unless-false _ (λ none.
+      true_from_ne_false _ (λ none.
       no-speed-left (bits speed10 1 word) (bits speed100 1 word) 0 (omega arith) half (lacks-one-at 0 (omega arith) none) (lacks-one-at 2 (omega arith) none) (omega arith))
 
   -- full duplex fits with a speed below 10G, which are the pairs 1, 3 and 4
   full-fits : 0 < speeds word → bits full_duplex 1 word ≡ 1 → bits speed10g 1 word ≡ 0 → any_fits Copper word pairs ≡ true
   full-fits speed full not-10G =
-      true-unless-false _ (λ none.
+      true_from_ne_false _ (λ none.
       no-speed-left (bits speed10 1 word) (bits speed100 1 word) (bits speed1000 1 word) (omega arith) full (lacks-one-at 1 (omega arith) none) (lacks-one-at 3 (omega arith) none) (lacks-one-at 4 (omega arith) none))
 
   -- a reason that leaves check 5 nothing to refuse on copper: it is not check 5's own, and where there is none, a pair fits

@@ -20,7 +20,7 @@ unfoldable pub media_of : ℕ → Result Media UnknownMedia
 media_of number =
     when eqb number copper then Ok Copper else
     when eqb number fibre then Ok Fibre else
-    Err (record { number = number })
+    Err (record {})
 
 -- the bits that select something, by their numbers; no check reads the pause bits (manual 7.1)
 abbrev pub auto_negotiation : ℕ

@@ -16,9 +16,7 @@ pub enum Media {
 
 // A number that names no medium.
 #[derive(Clone, Copy)]
-pub struct UnknownMedia {
-    pub number: u32,
-}
+pub struct UnknownMedia;
 
 // The medium that a number names, as C does.
 impl TryFrom<u32> for Media {
@@ -30,7 +28,7 @@ impl TryFrom<u32> for Media {
         match number {
             0 => Ok(Media::Copper),
             1 => Ok(Media::Fibre),
-            _ => Err(UnknownMedia { number }),
+            _ => Err(UnknownMedia),
         }
     }
 }
@@ -77,6 +75,7 @@ impl From<Reason> for u16 {
     }
 }
 
+// The bits of a word, by their numbers.
 const AUTO_NEGOTIATION: u32 = 0;
 
 const SPEED_10: u32 = 1;

@@ -1,4 +1,4 @@
--- What the operations on the record keep.
+-- What the operations on the settings keep.
 -- Assumes nothing.
 use Prim.Native.Nat.{ℕ, ◌≤◌}
 use mathlib.Core.Bool.{Bool, true, false}
@@ -22,7 +22,7 @@ use Rattle.settings.specs.Properties.{Recodes, KeepsTheRest, Enables, EveryEnabl
 use Rattle.settings.proofs.Sound.{Sound, sound-tells}
 use Rattle.settings.proofs.Writes.{kept-bits-recoded, settings-recoded, short-form-written, length-chosen}
 
--- the other way round: what a record's bytes must be to be sound
+-- the other way round: what the settings' bytes must be to be sound
 pub sound-if : (bytes : List ℕ) → Sound bytes → sound bytes ≡ true
 unfolding sound
 sound-if bytes s =

@@ -1,4 +1,4 @@
--- What soundness of a record tells.
+-- What soundness of the settings tells.
 -- Assumes nothing.
 use Prim.Native.Nat.{ℕ, ◌≤◌, ◌<◌}
 use mathlib.Core.Bool.{true, false}

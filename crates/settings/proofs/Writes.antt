@@ -1,4 +1,4 @@
--- What the writes of a form leave in the bytes of a record.
+-- What the writes of a form leave in the bytes of the settings.
 -- Assumes nothing.
 use Prim.Native.Nat.{ℕ, zero, suc, ◌+◌, ◌*◌, ◌≤◌}
 use mathlib.Core.Bool.{Bool, true, false}
@@ -41,14 +41,14 @@ part-then-rest : (at n : ℕ) (bytes : List ℕ) → part at n bytes ++ drop (at
 part-then-rest at n bytes = ap (λ (r : List ℕ). take n (drop at bytes) ++ r) (sym (drop-drop n at bytes)) ∙ take-append-drop n (drop at bytes)
 
 module _ (bytes : List ℕ) (room : size ≤ length bytes) where
-  -- a record's bytes, part by part
+  -- the settings' bytes, part by part
   by-parts : get_or bytes 0 0 ∷ get_or bytes 1 0 ∷ part 2 6 bytes ++ (part 8 4 bytes ++ (part 12 3 bytes ++ drop size bytes)) ≡ bytes
   by-parts =
       rw (part-then-rest 12 3 bytes, part-then-rest 8 4 bytes, part-then-rest 2 6 bytes)
       (sym (drop-cons bytes 0 0 (omega arith) ∙ ap (λ (r : List ℕ). get_or bytes 0 0 ∷ r) (drop-cons bytes 1 0 (omega arith))))
 
   module _ (bits : get_or bytes 1 0 ≤ 3) where
-    -- a record's bytes, from its settings
+    -- the settings' bytes, from their value
     pub settings-recoded : with_settings (settings_in bytes) bytes ≡ bytes
     unfolding with_settings settings_in
     settings-recoded = rw (kept-bits-recoded (get_or bytes 1 0) bits) by-parts
@@ -62,7 +62,7 @@ unfolding when◌then◌else◌
 length-chosen true xs ys n x y = x
 length-chosen false xs ys n x y = y
 
--- the long form's three pieces, written one after the other over a record's
+-- the long form's three pieces, written one after the other over those
 module _ (control kept : ℕ) (gives_mac gives_ipv4 : Bool) (mac new_mac ipv4 new_ipv4 unread new_unread rest : List ℕ)
     (mac-is : length mac ≡ 6) (new-mac-is : length new_mac ≡ 6) (ipv4-is : length ipv4 ≡ 4) (new-ipv4-is : length new_ipv4 ≡ 4)
     (unread-is : length unread ≡ length new_unread) where

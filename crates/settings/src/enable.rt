@@ -3,7 +3,7 @@ ghost use Rattle.std.specs.Prelude.{◌≡◌, ◌+◌, ◌≤◌, length, get_o
 ghost use Rattle.prelude.specs.Parts.{put};
 ghost use Rattle.prelude.specs.Choice.{when◌then◌else◌};
 ghost use Rattle.settings.specs.Layout.{size, kept_at, kept_bits};
-ghost use Rattle.settings.specs.Enable.{number_of, answered, long_form_size, short_form_answered, long_form_answered, receive_enabled};
+ghost use Rattle.settings.specs.Enable.{number_of, refusal_number, answered, long_form_size, short_form_answered, long_form_answered, receive_enabled};
 
 use crate::{
     CBDM, CONTROL, EN_ARP_RES, IPV4, IPV4_KEPT, KEPT, MAC, SIZE, UNREAD, has_its_mac, is_allowed,
@@ -130,9 +130,6 @@ pub fn number(enabled: Result<(), Refusal>) -> u32
 
 // The answer number of a refusal.
 impl From<Refusal> for u32 {
-    ghost use Rattle.std.specs.Prelude.{◌≡◌};
-    ghost use Rattle.settings.specs.Enable.{refusal_number};
-
     ghost from_gives = { λ refusal number. number ≡ refusal_number refusal };
 
     fn from(refusal: Refusal) -> u32 {

@@ -1,12 +1,13 @@
 -- What soundness of an account and of a state tells, and what it takes.
 -- Assumes nothing.
 use Prim.Native.Nat.{ℕ, ◌+◌, ◌-◌, ◌*◌, ◌≤◌, ◌<◌}
-use mathlib.Core.Bool.{Bool, true, false}
-use mathlib.Core.Path.{◌≡◌, refl, sym, ◌∙◌}
+use mathlib.Core.Bool.{Bool, true}
+use mathlib.Core.Path.{◌≡◌, ◌∙◌}
 use native.Mathlib.Nat.{le_trans, mul-le-mul_left, mul-le-mul_right}
 use native.Mathlib.Omega.{arith}
 use lib.Dec.{eqb, leb}
 use borrow.Author.Tests.{leb-true, le-leb, eqb-true, eq-eqb}
+use Rattle.std.specs.Cmp.{both_ways}
 use Rattle.prelude.specs.Choice.{◌and◌}
 use Rattle.prelude.proofs.Tests.{if-true, if-first, if-second}
 use Rattle.state.proofs.AllRows.{row-sound-at, all-fragments-next, all-fragments-grow}
@@ -73,12 +74,6 @@ unfolding sound
 sound-if s k =
     if-true _ _ _ k.account-is-sound ∙ (if-true _ _ _ (le-leb _ _ k.least) ∙ (if-true _ _ _ (le-leb _ _ k.most) ∙ le-leb _ _ k.bytes-within))
 
--- two tests that hold together
-same_test : (t u : Bool) → (t ≡ true → u ≡ true) → (u ≡ true → t ≡ true) → t ≡ u
-same_test true u to from = sym (to refl)
-same_test false true to from = from refl
-same_test false false to from = refl
-
 module _ (a : Account) where
   abbrev f : ℕ
   f = a.beside.open_fragments
@@ -103,7 +98,7 @@ module _ (a : Account) where
 
   pub sound-in-order : account_sound a ≡ in_order
   unfolding open_sound
-  sound-in-order = same_test _ _ to from
+  sound-in-order = both_ways _ _ to from
     where
       to : account_sound a ≡ true → in_order ≡ true
       to h =

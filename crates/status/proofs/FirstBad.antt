@@ -142,7 +142,7 @@ reading b bytes =
     (λ e. first-bad (GoodToRead b) BlockSize 0 (omega arith) (omega arith) (eqb-false (length b) 8 e) (below_none _)))
 
 pub first-bad-told : FirstBadTold
-first-bad-told = record { writing = writing; reading = reading }
+first-bad-told = record { numbered = refl; writing = writing; reading = reading }
 
 -- every field has its place
 every-field : (Good : Field → Type 0) → ((place : ℕ) → place < length in_order → Good (field_at place)) → (field : Field) → Good field

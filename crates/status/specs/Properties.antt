@@ -1,9 +1,9 @@
 -- Exactly what the writer writes is read, and read as what was written; and every answer, by a second description of fields and block that uses none of the rules (manual 6).
-use Rattle.std.specs.Prelude.{ℕ, zero, suc, ◌+◌, ◌*◌, ◌/◌, ◌%◌, ◌^◌, ◌<◌, ◌≤◌, Bool, false, List, [], ◌∷◌, ◌↔◌, ◌≡◌, Ok, Err, IsOk, eqb, length, get_or, replicate}
+use Rattle.std.specs.Prelude.{ℕ, zero, suc, ◌+◌, ◌*◌, ◌/◌, ◌%◌, ◌^◌, ◌<◌, ◌≤◌, Bool, false, List, [], ◌∷◌, ◌↔◌, ◌≡◌, Ok, Err, IsOk, eqb, length, get_or, replicate, map}
 use Rattle.status.specs.declared.Fields.{Fields}
 use Rattle.status.specs.declared.judge.Field.{Field}
 use Rattle.status.specs.declared.judge.Field.TheVariants.{BlockSize, Length, PacketStatus, MngReserved, DecisionIndex, VlanIndex}
-use Rattle.status.specs.Judged.{number_of, bad_field_number}
+use Rattle.status.specs.Judged.{field_number, number_of, bad_field_number}
 use Rattle.status.specs.Block.{written, block_back, parsed, fields_back}
 
 -- a VLAN tag is any two bytes (manual 6.4)
@@ -76,7 +76,8 @@ abbrev pub TellsFirstBad : (Field → Type 0) → (answer field : ℕ) → Type 
 TellsFirstBad Good answer zero = (answer ≡ 0) × ((place : ℕ) → place < length in_order → Good (field_at place))
 TellsFirstBad Good answer (suc place) = (answer ≡ 15) × (place < length in_order) × (Good (field_at place) → ⊥) × ((earlier : ℕ) → earlier < place → Good (field_at earlier))
 
--- whatever is written or read (manual 6.6)
+-- whatever is written or read, where a field's number is its place in the order, counted from 1 (manual 6.6)
 pub record FirstBadTold : Type 0 where
+  pub numbered : map field_number in_order ≡ 1 ∷ 2 ∷ 3 ∷ 4 ∷ 5 ∷ 6 ∷ []
   pub writing : (f : Fields) → TellsFirstBad (GoodToWrite f) (number_of (written f)) (bad_field_number (written f))
   pub reading : (b : List ℕ) → AreBytes b → TellsFirstBad (GoodToRead b) (number_of (parsed b)) (bad_field_number (parsed b))

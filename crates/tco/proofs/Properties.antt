@@ -56,4 +56,4 @@ every-part = record {
 }
 
 pub every-status : EveryStatus
-every-status = record { writing = first-bad-told.writing; reading = first-bad-told.reading }
+every-status = record { writing = first-bad-told.writing; reading = first-bad-told.reading; block_is = λ f. refl; fields_are = λ b. refl }

@@ -7,6 +7,7 @@ use Rattle.address.specs.declared.Address.TheVariants.{Mac, Ipv4}
 use Rattle.address.specs.Address.{in_force}
 use Rattle.packet.specs.Store.{shown}
 use Rattle.status.specs.declared.Fields.{Fields}
+use Rattle.status.specs.Block.{block_back, fields_back}
 use Rattle.status.specs.Properties.{AreBytes, GoodToWrite, GoodToRead, TellsFirstBad}
 use Rattle.tco.specs.declared.Part.{Part}
 use Rattle.tco.specs.Part.{shown_length, in_flash, mac_in_force, ipv4_in_force}
@@ -26,3 +27,6 @@ pub record EveryPart : Type 0 where
 pub record EveryStatus : Type 0 where
   pub writing : (f : Fields) → TellsFirstBad (GoodToWrite f) (written_in_numbers f).answer (written_in_numbers f).field
   pub reading : (b : List ℕ) → AreBytes b → TellsFirstBad (GoodToRead b) (read_in_numbers b).answer (read_in_numbers b).field
+  -- beside it what the writer and the reader give
+  pub block_is : (f : Fields) → (written_in_numbers f).block ≡ block_back f
+  pub fields_are : (b : List ℕ) → (read_in_numbers b).fields ≡ fields_back b

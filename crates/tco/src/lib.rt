@@ -54,8 +54,8 @@ pub struct StatusRead {
 // Where an address starts in the settings and in Flash, and its size.
 #[derive(Clone, Copy)]
 struct Place {
-    in_settings: u32,
-    in_flash: u32,
+    settings_at: u32,
+    flash_at: u32,
     size: u32,
 }
 
@@ -73,14 +73,14 @@ const IPV4_SIZE: u32 = (settings::UNREAD - settings::IPV4) as u32;
 
 // Where the addresses stand.
 const MAC: Place = Place {
-    in_settings: settings::MAC as u32,
-    in_flash: 0,
+    settings_at: settings::MAC as u32,
+    flash_at: 0,
     size: MAC_SIZE,
 };
 
 const IPV4: Place = Place {
-    in_settings: settings::IPV4 as u32,
-    in_flash: MAC_SIZE,
+    settings_at: settings::IPV4 as u32,
+    flash_at: MAC_SIZE,
     size: IPV4_SIZE,
 };
 
@@ -151,7 +151,7 @@ pub extern "C" fn tco_ipv4_in_force(settings: &[u8], flash: &[u8]) -> Part
 // An address in force, by its place in the source.
 #[tactic(auto, unfolding(crate::specs::Part::part_from))]
 fn in_force(address: Address, place: Place, settings: &[u8], flash: &[u8]) -> Part
-    ensures { result ≡ part_from (source_of address settings.now flash.now) place.in_settings place.in_flash place.size }
+    ensures { result ≡ part_from (source_of address settings.now flash.now) place.settings_at place.flash_at place.size }
 {
     match address::source_of(address, settings, flash) {
         None => Part {
@@ -161,12 +161,12 @@ fn in_force(address: Address, place: Place, settings: &[u8], flash: &[u8]) -> Pa
         },
         Some(Source::Settings) => Part {
             source: SETTINGS,
-            start: place.in_settings,
+            start: place.settings_at,
             length: place.size,
         },
         Some(Source::Flash) => Part {
             source: FLASH,
-            start: place.in_flash,
+            start: place.flash_at,
             length: place.size,
         },
     }

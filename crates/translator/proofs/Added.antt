@@ -13,7 +13,7 @@ use borrow.Author.Tests.{eqb-true, eq-eqb, le-leb, leb-true, lt-ltb, ltb-true}
 use Rattle.prelude.specs.Choice.{when◌then◌else◌}
 use Rattle.prelude.proofs.Lists.{elements, all-elements}
 use Rattle.prelude.proofs.Tests.{if-true, if-false, if-cases, if-first, if-second}
-use Rattle.prelude.proofs.Tests.{same_or_not}
+use Rattle.std.proofs.lemmas.Bool.{cases_eq}
 use Rattle.state.specs.Account.{row_count, columns, aborted, badlength, packets_in, fragments_in, bytes_in, all_fragments}
 use Rattle.state.specs.Sound.{row_sound, rows_sound, singles_sound}
 use Rattle.state.specs.State.{max_maximum}
@@ -115,7 +115,7 @@ module _ (grid : List ℕ) (row packets fragments bytes : ℕ) where
 
     -- a row of the grid is the one that is added to, or stays
     added-at : (other : ℕ) → other < row_count → ((other ≡ row) × (row < row_count) × Adds other packets fragments bytes grid added) ⊎ SameRow other grid added
-    added-at other l = by_row (same_or_not other row)
+    added-at other l = by_row (cases_eq other row)
       where
         by_row : (other ≡ row) ⊎ (other ≡ row → ⊥) → ((other ≡ row) × (row < row_count) × Adds other packets fragments bytes grid added) ⊎ SameRow other grid added
         by_row (inl e) = inl (e, rw e at l, rw e (added-here (rw e at l)))

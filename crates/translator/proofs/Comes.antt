@@ -41,7 +41,7 @@ use Rattle.translator.specs.Joining.{Stored, stored, completed_of, filled_if, jo
 use Rattle.translator.specs.Judge.{judged, ends_in, bad_length, sequence_of, by_sequence, fragment, enabled_as, enable, unknown, in_store, by_class}
 use Rattle.translator.specs.Properties.{fragment_closes, closes_in}
 use Rattle.translator.proofs.Joined.{written, last_of, joined-by-last}
-use Rattle.prelude.proofs.Tests.{same_or_not}
+use Rattle.std.proofs.lemmas.Bool.{cases_eq}
 
 -- the data bytes that each outcome counts
 abbrev cause_bytes : Cause → ℕ → ℕ
@@ -140,7 +140,7 @@ enabled-counted settings bytes s =
 enabling : (settings bytes : List ℕ) → settings_layout.sound settings ≡ true
     → (let left : Answered Answer = receive_enabled settings bytes in Enabling (settings-enable.number_of left.answer) settings left.settings)
 enabling settings bytes s =
-    record { the_rest = (every-enable settings bytes).the_rest; stay-sound = by_number (same_or_not number 11); change = (every-enable settings bytes).refused }
+    record { the_rest = (every-enable settings bytes).the_rest; stay-sound = by_number (cases_eq number 11); change = (every-enable settings bytes).refused }
   where
     number : ℕ
     number = settings-enable.number_of (receive_enabled settings bytes).answer

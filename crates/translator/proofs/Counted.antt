@@ -24,7 +24,7 @@ use Rattle.translator.specs.declared.command.Class.TheVariants as class
 use Rattle.translator.specs.declared.tally.Tally.{Tally}
 use Rattle.translator.specs.declared.judged.Judged.{Judged}
 use Rattle.translator.specs.Command.{commands, class_in}
-use Rattle.translator.specs.Counting.{add_to, tally_of, left_open, judged_tally, grid_after, beside_after, counted}
+use Rattle.translator.specs.Counting.{add_to, outcome_tally, left_open, tally_of, grid_after, beside_after, counted}
 use Rattle.translator.specs.Properties.{fragment_closes, closes_in, closed_row, SameRow, Adds, packet_of, no_packet, open_packet, packet_left}
 use Rattle.translator.proofs.Comes.{ends_at}
 use Rattle.translator.proofs.Added.{GridSound, added-formed, added-elsewhere, added-here, fragments-stand, added-sound}
@@ -174,7 +174,7 @@ module _ (s : State) (store settings : List ℕ) (t : Transaction) (d : After Ju
   ends = row_number d.result.ends
 
   abbrev pub tally : Tally
-  tally = judged_tally d.result before.beside
+  tally = tally_of d.result before.beside
 
   is-sound : Sound s
   is-sound = sound-tells s r.is-sound
@@ -190,7 +190,7 @@ module _ (s : State) (store settings : List ℕ) (t : Transaction) (d : After Ju
       let size : _ = w.bytes-are in
       let few : _ = w.few in
       subst (λ (n : ℕ). Tallies o s.maximum (left_open ends before.beside.open_fragments) (left_open ends before.beside.open_bytes) (length t.bytes)
-      (tally_of o (left_open ends before.beside.open_fragments) (left_open ends before.beside.open_bytes) n)) (sym size)
+      (outcome_tally o (left_open ends before.beside.open_fragments) (left_open ends before.beside.open_bytes) n)) (sym size)
       (tallied s.maximum _ _ (length t.bytes) is-sound.most (left_open-open s.maximum ends _ _ was-open) o w.is-counted (omega arith) (λ z. omega (arith, w.some z)))
 
   pub ends-closed : ends ≡ closed_row before t.command o

@@ -21,7 +21,7 @@ use Rattle.outcome.specs.declared.Cause.TheVariants as cause
 use Rattle.outcome.specs.declared.Outcome.{Outcome}
 use Rattle.outcome.specs.declared.Outcome.TheVariants as outcome
 use Rattle.translator.specs.declared.judged.Judged.{Judged}
-use Rattle.translator.specs.Counting.{left_open, cause_tally, tally_of, judged_tally}
+use Rattle.translator.specs.Counting.{left_open, cause_tally, outcome_tally, tally_of}
 use Rattle.translator.specs.Rows.{BesideFits, TallyFits, AccountFits, most}
 
 pub sent-length-within : (total : ℕ) → total ≤ max_packet → sent_length total ≤ max_packet
@@ -41,7 +41,7 @@ module _ (f b size : ℕ) (few : f ≤ limit) (much : b ≤ most) (small : size 
   cause-fits cause.Short = search rules
   cause-fits cause.LinkDown = search rules
 
-  outcome_fits : (o : Outcome) → TallyFits (tally_of o f b size)
+  outcome_fits : (o : Outcome) → TallyFits (outcome_tally o f b size)
   outcome_fits outcome.Joined = search rules
   outcome_fits (outcome.Sent n) = search rules
   outcome_fits (outcome.Discarded c) = cause-fits c
@@ -52,7 +52,7 @@ module _ (f b size : ℕ) (few : f ≤ limit) (much : b ≤ most) (small : size 
   outcome_fits outcome.NotSound = search rules
   outcome_fits outcome.Full = search rules
 
-pub tally-fits : (j : Judged) (b : Beside) → BesideFits b → j.bytes ≤ max_maximum → TallyFits (judged_tally j b)
+pub tally-fits : (j : Judged) (b : Beside) → BesideFits b → j.bytes ≤ max_maximum → TallyFits (tally_of j b)
 tally-fits j b fits small =
     outcome_fits (left_open (row_number j.ends) b.open_fragments) (left_open (row_number j.ends) b.open_bytes) j.bytes
     (le_trans (left-open-least (row_number j.ends) b.open_fragments) fits.held_fragments)

@@ -13,12 +13,11 @@ use Rattle.state.specs.Account.{limit, row_number}
 use Rattle.state.specs.Grid.{rows_of, flat_of}
 use Rattle.state.specs.State.{state_of}
 use Rattle.outcome.specs.declared.Outcome.{Outcome}
-use Rattle.translator.specs.declared.records.Held.{Held}
 use Rattle.translator.specs.declared.tally.Tally.{Tally}
 use Rattle.translator.specs.declared.judged.Judged.{Judged}
 use Rattle.translator.specs.declared.step.Step.{Step}
 use Rattle.translator.specs.Command.{commands, class_in}
-use Rattle.translator.specs.Counting.{add_to, judged_tally, grid_after, beside_after, counted}
+use Rattle.translator.specs.Counting.{add_to, tally_of, grid_after, beside_after, counted}
 use Rattle.translator.specs.Held.{Placed, Steps, TakesRecord, held, rejected_step}
 use Rattle.translator.specs.Judge.{by_class}
 use Rattle.translator.specs.Replay.{state_after}
@@ -40,7 +39,7 @@ module _ (r : Readiness) (beside : Beside) (maximum : ℕ) (store settings : Lis
 
   pub counted-steps : (j : Judged) (y : Tally) (after-it : Beside) (store' settings' : List ℕ) → r ≡ Ok tt → (beside.total ≡ limit → ⊥)
       → after j store' settings' ≡ by_class (class_in commands t.command) maximum beside.open_fragments beside.open_bytes t store settings
-      → y ≡ judged_tally j beside → after-it ≡ beside_after y beside → BesideFits beside → TallyFits y
+      → y ≡ tally_of j beside → after-it ≡ beside_after y beside → BesideFits beside → TallyFits y
       → Steps r beside maximum store settings t (record { outcome = j.outcome; ends = j.ends; tally = y; beside = after-it }) store' settings'
   unfolding counted
   counted-steps j y after-it store' settings' ready room comes tallied numbers beside-fits tally-fits = record {
@@ -50,20 +49,20 @@ module _ (r : Readiness) (beside : Beside) (maximum : ℕ) (store settings : Lis
     fits = λ rows rows_fit. record { own = own_room rows y (rows_fit ready) tally-fits; ended = ended-room rows (row_number j.ends) beside y (rows_fit ready) beside-fits tally-fits };
   }
 
-module _ (h : Held) (store settings : List ℕ) (t : Transaction) (placed : Placed h.rows) where
+module _ (rows : List (List ℕ)) (beside : Beside) (maximum : ℕ) (store settings : List ℕ) (t : Transaction) (placed : Placed rows) where
   module _ (ends : ℕ) (y : Tally) where
-    flat-is : flat_of (rows_after ends h.beside y h.rows) ≡ grid_after ends h.beside y (flat_of h.rows)
-    flat-is = ap (λ (r : List (List ℕ)). flat_of (rows_after ends h.beside y r)) placed ∙ flat_after (flat_of h.rows) ends h.beside y refl
+    flat-is : flat_of (rows_after ends beside y rows) ≡ grid_after ends beside y (flat_of rows)
+    flat-is = ap (λ (r : List (List ℕ)). flat_of (rows_after ends beside y r)) placed ∙ flat_after (flat_of rows) ends beside y refl
 
-    after-placed : Placed (rows_after ends h.beside y h.rows)
-    after-placed = ap (rows_after ends h.beside y) placed ∙ (rows-after-are (flat_of h.rows) ends h.beside y refl ∙ ap rows_of (sym flat-is))
+    after-placed : Placed (rows_after ends beside y rows)
+    after-placed = ap (rows_after ends beside y) placed ∙ (rows-after-are (flat_of rows) ends beside y refl ∙ ap rows_of (sym flat-is))
 
-  pub step-takes : (r : Readiness) (s : Step) (store' settings' : List ℕ) (rows' : List (List ℕ)) → r ≡ readiness_of (held h) store settings
-      → Steps r h.beside h.maximum store settings t s store' settings' → rows' ≡ rows_after (row_number s.ends) h.beside s.tally h.rows
-      → TakesRecord h store settings t (record { rows = rows'; beside = s.beside; maximum = h.maximum }) store' settings'
+  pub step-takes : (r : Readiness) (s : Step) (store' settings' : List ℕ) (rows' : List (List ℕ)) → r ≡ readiness_of (held rows beside maximum) store settings
+      → Steps r beside maximum store settings t s store' settings' → rows' ≡ rows_after (row_number s.ends) beside s.tally rows
+      → TakesRecord rows beside maximum store settings t rows' s.beside store' settings'
   step-takes r s store' settings' rows' known does rows_are =
       rw rows_are
       (record {
         placed = after-placed (row_number s.ends) s.tally;
-        taken = rw (flat-is (row_number s.ends) s.tally) (ap state_after (does.steps (flat_of h.rows) known));
+        taken = rw (flat-is (row_number s.ends) s.tally) (ap state_after (does.steps (flat_of rows) known));
       })

@@ -16,7 +16,7 @@ use Rattle.state.specs.Grid.{cell}
 use Rattle.state.specs.State.{max_maximum}
 use Rattle.translator.specs.declared.tally.Tally.{Tally}
 use Rattle.translator.specs.Rows.{RowsFit, BesideFits, TallyFits, Room, in_rows, most}
-use Rattle.prelude.proofs.Tests.{same_or_not}
+use Rattle.std.proofs.lemmas.Bool.{cases_eq}
 
 -- each cell of a row is at most so much
 abbrev Within : ℕ → List ℕ → Type 0
@@ -32,7 +32,7 @@ added-within : (r : List (List ℕ)) (row packets fragments bytes other n m : �
     → Within (n + m) (get_or (in_rows r row packets fragments bytes) other [])
 unfolding in_rows
 added-within r row packets fragments bytes other n m nine here there p f b =
-    if-cases (λ (s : List (List ℕ)). Within (n + m) (get_or s other [])) (ltb row row_count) _ _ (λ l. at_row (ltb-true _ _ l) (same_or_not other row)) (λ _. (omega arith, omega arith, omega arith))
+    if-cases (λ (s : List (List ℕ)). Within (n + m) (get_or s other [])) (ltb row row_count) _ _ (λ l. at_row (ltb-true _ _ l) (cases_eq other row)) (λ _. (omega arith, omega arith, omega arith))
   where
     more : List ℕ
     more = (cell r row 0 + packets) ∷ (cell r row 1 + fragments) ∷ (cell r row 2 + bytes) ∷ []

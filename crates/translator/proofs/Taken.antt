@@ -17,6 +17,7 @@ use Rattle.record.specs.declared.Stop.TheVariants as stop
 use Rattle.record.specs.Records.{Records, none, found_at, records_in}
 use Rattle.record.specs.Transaction.{transaction}
 use Rattle.record.proofs.Records.{by_found, records-by-found, WholeAt, whole-at}
+use Rattle.state.specs.declared.Account.{Account}
 use Rattle.state.specs.declared.State.{State}
 use Rattle.state.specs.Account.{Formed}
 use Rattle.state.specs.Grid.{rows_of, flat_of}
@@ -68,9 +69,8 @@ module _ (s : State) (store settings : List ℕ) (part : List ℕ) (at : ℕ) wh
           let l : After State = all_transacted c rest.transactions in
           replayed_to (replay_of l.result l.store l.settings) (stopped_at n rest.bad_link)
 
--- the rows of a state's grid, with the numbers beside them, hold that state
-pub state_holds : (s : State) (rows : List (List ℕ)) → rows ≡ rows_of s.account.grid → Formed s.account
-    → Holds (record { rows = rows; beside = s.account.beside; maximum = s.maximum }) s
-state_holds s rows are formed =
-    let flat : flat_of rows ≡ s.account.grid = ap flat_of are ∙ flat_rows s.account.grid formed in
-    record { placed = are ∙ ap rows_of (sym flat); same = rw flat }
+-- the rows of a grid hold it
+pub rows_hold : (rows : List (List ℕ)) (a : Account) → rows ≡ rows_of a.grid → Formed a → Holds rows a.grid
+rows_hold rows a are formed =
+    let flat : flat_of rows ≡ a.grid = ap flat_of are ∙ flat_rows a.grid formed in
+    record { placed = are ∙ ap rows_of (sym flat); same = flat }

@@ -12,7 +12,7 @@ use Rattle.outcome.specs.declared.Outcome.{Outcome}
 use Rattle.outcome.specs.declared.Outcome.TheVariants as outcome
 use Rattle.outcome.specs.Outcome.{number_of, is_counted}
 use Rattle.translator.specs.declared.tally.Tally.{Tally}
-use Rattle.translator.specs.Counting.{tally_of}
+use Rattle.translator.specs.Counting.{outcome_tally}
 use Rattle.translator.specs.Properties.{own_row}
 use Rattle.translator.proofs.Added.{Fair}
 use Rattle.translator.proofs.Comes.{counted_bytes, counted-refusals}
@@ -65,7 +65,7 @@ pub record Tallies (o : Outcome) (maximum f b size : ℕ) (t : Tally) : Type 0 w
 
 module _ (maximum f b size : ℕ) (most : maximum ≤ max_maximum) (left : Open maximum f b) where
   pub tallied : (o : Outcome) → is_counted (number_of o) ≡ true → counted_bytes o size ≤ maximum → (number_of o ≡ 0 → 1 ≤ counted_bytes o size)
-      → Tallies o maximum f b size (tally_of o f b (counted_bytes o size))
+      → Tallies o maximum f b size (outcome_tally o f b (counted_bytes o size))
   unfolding is_counted when◌then◌else◌
   tallied outcome.Joined c few some = record { own = refl; sound = omega (arith, some refl); commands = omega (arith, some refl); fragments = omega (arith, some refl) }
   tallied (outcome.Sent n) c few some = record { own = refl; sound = omega arith; commands = omega arith; fragments = omega arith }

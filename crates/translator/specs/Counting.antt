@@ -52,24 +52,24 @@ cause_tally cause.Short f b size = whole row.Short f b size
 cause_tally cause.LinkDown f b size = whole row.LinkDown f b size
 
 -- what each outcome adds to its line, behind the `f` fragments and `b` bytes that are left open. The last three are never counted, and `Refused` for settings that are too short or not sound never comes: that is answered before, as `NoRoom` or `NotSound` (manual 2.2, 8.3)
-abbrev pub tally_of : Outcome → (f b size : ℕ) → Tally
-tally_of outcome.Joined f b size = tally None 0 0 0 (f + 1) (b + size) 0 0
-tally_of (outcome.Sent n) f b size = whole row.Sent f b size
-tally_of (outcome.Discarded c) f b size = cause_tally c f b size
-tally_of outcome.Unknown f b size = tally None 0 0 0 f b 0 1
-tally_of (outcome.Refused r) f b size = tally None 0 0 0 f b 0 1
-tally_of outcome.Taken f b size = tally None 0 0 0 f b 1 0
-tally_of outcome.NoRoom f b size = tally None 0 0 0 f b 0 0
-tally_of outcome.NotSound f b size = tally None 0 0 0 f b 0 0
-tally_of outcome.Full f b size = tally None 0 0 0 f b 0 0
+abbrev pub outcome_tally : Outcome → (f b size : ℕ) → Tally
+outcome_tally outcome.Joined f b size = tally None 0 0 0 (f + 1) (b + size) 0 0
+outcome_tally (outcome.Sent n) f b size = whole row.Sent f b size
+outcome_tally (outcome.Discarded c) f b size = cause_tally c f b size
+outcome_tally outcome.Unknown f b size = tally None 0 0 0 f b 0 1
+outcome_tally (outcome.Refused r) f b size = tally None 0 0 0 f b 0 1
+outcome_tally outcome.Taken f b size = tally None 0 0 0 f b 1 0
+outcome_tally outcome.NoRoom f b size = tally None 0 0 0 f b 0 0
+outcome_tally outcome.NotSound f b size = tally None 0 0 0 f b 0 0
+outcome_tally outcome.Full f b size = tally None 0 0 0 f b 0 0
 
 -- what is left open of the packet: nothing, where it ends in a row (manual 8.4)
 unfoldable pub left_open : ℕ → ℕ → ℕ
 left_open ends n = when ltb ends row_count then 0 else n
 
 -- behind what is left open (manual 8.3, 8.4)
-abbrev pub judged_tally : Judged → Beside → Tally
-judged_tally j b = tally_of j.outcome (left_open (row_number j.ends) b.open_fragments) (left_open (row_number j.ends) b.open_bytes) j.bytes
+abbrev pub tally_of : Judged → Beside → Tally
+tally_of j b = outcome_tally j.outcome (left_open (row_number j.ends) b.open_fragments) (left_open (row_number j.ends) b.open_bytes) j.bytes
 
 -- the packet that ends stands in its row as one packet with its fragments and bytes (manual 8.4)
 unfoldable pub grid_after : ℕ → Beside → Tally → List ℕ → List ℕ
@@ -83,4 +83,4 @@ beside_after t b = besides t.open_fragments t.open_bytes (b.taken + t.added_take
 -- the account after a transaction (manual 8.3, 8.4)
 unfoldable pub counted : Judged → Account → Account
 counted j a =
-    account_of (grid_after (row_number j.ends) a.beside (judged_tally j a.beside) a.grid) (beside_after (judged_tally j a.beside) a.beside)
+    account_of (grid_after (row_number j.ends) a.beside (tally_of j a.beside) a.grid) (beside_after (tally_of j a.beside) a.beside)

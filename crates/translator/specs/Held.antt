@@ -8,15 +8,14 @@ use Rattle.state.specs.Account.{row_count, columns, row_number}
 use Rattle.state.specs.Grid.{rows_of, flat_of}
 use Rattle.state.specs.State.{state_of}
 use Rattle.outcome.specs.declared.Outcome.{Outcome}
-use Rattle.translator.specs.declared.records.Held.{Held}
 use Rattle.translator.specs.declared.step.Step.{Step}
 use Rattle.translator.specs.Counting.{tally, grid_after}
 use Rattle.translator.specs.Replay.{state_after}
 use Rattle.translator.specs.Rows.{CountFits, RowsFit}
 use Rattle.translator.specs.Transact.{Readiness, with, readiness_of, transacted}
 
-abbrev pub held : Held → State
-held h = state_of (flat_of h.rows) h.beside h.maximum
+abbrev pub held : List (List ℕ) → Beside → ℕ → State
+held rows beside maximum = state_of (flat_of rows) beside maximum
 
 -- what is known to be the readiness of a state with these numbers, whatever its grid
 pub record IsReadiness (r : Readiness) (beside : Beside) (maximum : ℕ) (store settings : List ℕ) : Type 0 where
@@ -39,12 +38,12 @@ pub record Steps (r : Readiness) (beside : Beside) (maximum : ℕ) (store settin
 abbrev pub Placed : List (List ℕ) → Type 0
 Placed rows = rows ≡ rows_of (flat_of rows)
 
--- a state that is held
-pub record Holds (h : Held) (state : State) : Type 0 where
-  pub placed : Placed h.rows
-  pub same : held h ≡ state
+-- rows that hold a grid
+pub record Holds (rows : List (List ℕ)) (grid : List ℕ) : Type 0 where
+  pub placed : Placed rows
+  pub same : flat_of rows ≡ grid
 
--- what is held then and the buffers are what the rules leave
-pub record TakesRecord (h : Held) (store settings : List ℕ) (t : Transaction) (h' : Held) (store' settings' : List ℕ) : Type 0 where
-  pub placed : Placed h'.rows
-  pub taken : after (held h') store' settings' ≡ state_after (transacted (held h) store settings t)
+-- the rows and the numbers beside them, and the buffers, are then what the rules leave
+pub record TakesRecord (rows : List (List ℕ)) (beside : Beside) (maximum : ℕ) (store settings : List ℕ) (t : Transaction) (rows' : List (List ℕ)) (beside' : Beside) (store' settings' : List ℕ) : Type 0 where
+  pub placed : Placed rows'
+  pub taken : after (held rows' beside' maximum) store' settings' ≡ state_after (transacted (held rows beside maximum) store settings t)

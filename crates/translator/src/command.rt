@@ -8,7 +8,7 @@ ghost use Rattle.translator.specs.Judge.{by_class, enable, unknown};
 
 use crate::fragment::fragment;
 use crate::judged::{Judged, ends_in};
-use crate::numbers::Numbers;
+use crate::open_packet::OpenPacket;
 use outcome::Outcome;
 use record::Transaction;
 use state::Row;
@@ -71,25 +71,25 @@ const LAST: u8 = 0x40;
 
 // Judges a transaction by its command, and leaves in the store and the settings what it writes there.
 pub(crate) fn judge(
-    numbers: Numbers,
+    open_packet: OpenPacket,
     store: &mut [u8],
     settings: &mut [u8],
     transaction: Transaction<'_>,
 ) -> Judged
     requires { max_packet ≤ length store.old }
-    ensures { after result store.new settings.new ≡ by_class (class_in commands transaction.entry.command) numbers.maximum numbers.open_fragments numbers.open_bytes transaction.entry store.old settings.old }
+    ensures { after result store.new settings.new ≡ by_class (class_in commands transaction.entry.command) open_packet.maximum open_packet.fragments open_packet.bytes transaction.entry store.old settings.old }
 {
     match class_of(transaction.command) {
         Class::Fragment { first, last } => fragment(
-            numbers,
+            open_packet,
             store,
             transaction.bytes,
             first,
             last,
             transaction.link_up,
         ),
-        Class::Enable => enable(numbers.open_fragments, settings, transaction.bytes),
-        Class::Unknown => unknown(numbers.open_fragments, transaction.command),
+        Class::Enable => enable(open_packet.fragments, settings, transaction.bytes),
+        Class::Unknown => unknown(open_packet.fragments, transaction.command),
     }
 }
 

@@ -6,7 +6,7 @@ ghost use Rattle.translator.specs.Judge.{bad_length, fragment, sequence_of};
 
 use crate::joining::join;
 use crate::judged::{Judged, ends_in};
-use crate::numbers::Numbers;
+use crate::open_packet::OpenPacket;
 use outcome::{Cause, Outcome};
 use state::Row;
 
@@ -21,7 +21,7 @@ pub(crate) struct Joins {
 
 // Judges a fragment with these flags, and writes it into the store where it joins a packet.
 pub(crate) fn fragment(
-    numbers: Numbers,
+    open_packet: OpenPacket,
     store: &mut [u8],
     bytes: &[u8],
     first: bool,
@@ -29,16 +29,16 @@ pub(crate) fn fragment(
     link_up: bool,
 ) -> Judged
     requires { max_packet ≤ length store.old }
-    ensures { stored result store.new ≡ fragment numbers.maximum numbers.open_fragments numbers.open_bytes bytes.now first last link_up store.old }
+    ensures { stored result store.new ≡ fragment open_packet.maximum open_packet.fragments open_packet.bytes bytes.now first last link_up store.old }
 {
     let size = bytes.len() as u64;
     if size < 1 {
-        return bad_length(numbers.open_fragments);
+        return bad_length(open_packet.fragments);
     }
-    if numbers.maximum < size {
-        return bad_length(numbers.open_fragments);
+    if open_packet.maximum < size {
+        return bad_length(open_packet.fragments);
     }
-    let sequence = sequence_of(first, numbers);
+    let sequence = sequence_of(first, open_packet);
     let Some(Joins { at, ends }) = sequence else {
         return Judged {
             outcome: Outcome::Discarded(Cause::Aborted),
@@ -65,18 +65,18 @@ fn bad_length(open_fragments: u64) -> Judged
 }
 
 // The packet that a fragment of an allowed length joins, if there is one.
-fn sequence_of(first: bool, numbers: Numbers) -> Option<Joins>
-    ensures { result ≡ sequence_of first numbers.open_fragments numbers.open_bytes }
+fn sequence_of(first: bool, open_packet: OpenPacket) -> Option<Joins>
+    ensures { result ≡ sequence_of first open_packet.fragments open_packet.bytes }
 {
     if first {
         return Some(Joins {
             at: 0,
-            ends: ends_in(Row::Superseded, numbers.open_fragments),
+            ends: ends_in(Row::Superseded, open_packet.fragments),
         });
     }
-    if 0 < numbers.open_fragments {
+    if 0 < open_packet.fragments {
         return Some(Joins {
-            at: numbers.open_bytes,
+            at: open_packet.bytes,
             ends: None,
         });
     }

@@ -1,6 +1,7 @@
 // A fragment that joins its packet: written into the store, and the packet completed by its Last.
 ghost use Rattle.std.specs.Prelude.{◌≡◌, ◌≤◌, length};
 ghost use Rattle.packet.specs.Store.{max_packet};
+ghost use Rattle.prelude.specs.Parts.{put};
 ghost use Rattle.state.specs.State.{max_maximum};
 ghost use Rattle.translator.specs.Joining.{completed, completed_of, joined, stored};
 ghost use Rattle.translator.specs.Rows.{most};
@@ -26,11 +27,20 @@ pub(crate) fn join(store: &mut [u8], at: u64, fragment: &[u8], last: bool, link_
         return Outcome::Joined;
     }
     let start = at as usize;
-    store[start..start + fragment.len()].copy_from_slice(fragment);
+    copy_to_front(&mut store[start..], fragment);
     if last {
         return complete(store, total, link_up);
     }
     Outcome::Joined
+}
+
+// Copies the fragment to the front of the part; the part's other bytes stay.
+#[tactic(auto, using(prelude::proofs::Tests::tests), unfolding(prelude::specs::Parts::put))]
+fn copy_to_front(part: &mut [u8], fragment: &[u8])
+    requires { length fragment.now ≤ length part.old }
+    ensures { part.new ≡ put part.old 0 fragment.now }
+{
+    part[..fragment.len()].copy_from_slice(fragment);
 }
 
 // Completes a packet of `total` bytes, and fills it up where it is sent.

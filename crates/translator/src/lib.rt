@@ -7,7 +7,7 @@ mod counting;
 mod fragment;
 mod joining;
 mod judged;
-mod numbers;
+mod open_packet;
 mod readiness;
 mod records;
 mod step;

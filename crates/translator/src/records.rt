@@ -53,17 +53,18 @@ impl Replay {
     pub fn take(&mut self, part: &[u8], from: usize) -> Stopped
         ensures { replayed_to self.new result ≡ replayed self.old from (drop from part.now) }
     {
-        let state = self.state;
-        let account = state.account;
+        let account = self.state.account;
+        let maximum = self.state.maximum;
         let readiness = readiness_of(
             &account.grid,
             account.beside,
-            state.maximum,
+            maximum,
             &self.store,
             &self.settings,
         );
-        // a walk and no `for`: each record tells where the next begins, and the state goes along
-        let mut held = Held::of(state);
+        // a walk and no `for`: each record tells where the next begins, and the account goes along
+        let mut rows = rows_of(account);
+        let mut beside = account.beside;
         let mut at = from;
         let stop = loop {
             match record::find_at(part, at) {
@@ -73,13 +74,27 @@ impl Replay {
                         bytes: &part[record.start..record.end],
                         link_up: record.link_up,
                     };
-                    held.take(readiness, &mut self.store, &mut self.settings, transaction);
+                    beside = take_record(
+                        readiness,
+                        &mut rows,
+                        beside,
+                        maximum,
+                        &mut self.store,
+                        &mut self.settings,
+                        transaction,
+                    );
                     at = record.end;
                 }
                 Err(stop) => break stop,
             }
         };
-        self.state = held.state();
+        self.state = State {
+            account: Account {
+                grid: state::flat_of(rows),
+                beside,
+            },
+            maximum,
+        };
         Stopped { at, stop }
     }
 
@@ -91,61 +106,30 @@ impl Replay {
     }
 }
 
-// A state whose account is held as rows and the numbers beside them.
-#[derive(Clone, Copy)]
-struct Held {
-    rows: [[u64; COLUMNS]; ROW_COUNT],
-    beside: Beside,
-    maximum: u64,
+// The rows of an account's grid.
+#[tactic(auto, using(crate::proofs::Taken::rows_hold))]
+fn rows_of(account: Account) -> [[u64; COLUMNS]; ROW_COUNT]
+    ensures { Holds result account.grid }
+{
+    state::rows_of(account.grid)
 }
 
-impl Held {
-    #[tactic(auto, using(crate::proofs::Taken::state_holds))]
-    fn of(state: State) -> Held
-        ensures { Holds result state }
-    {
-        let account = state.account;
-        Held {
-            rows: state::rows_of(account.grid),
-            beside: account.beside,
-            maximum: state.maximum,
-        }
-    }
-
-    fn state(&self) -> State
-        ensures { result ≡ held self.now }
-    {
-        State {
-            account: Account {
-                grid: state::flat_of(self.rows),
-                beside: self.beside,
-            },
-            maximum: self.maximum,
-        }
-    }
-
-    // Takes one record as a transaction, and counts it.
-    fn take(
-        &mut self,
-        readiness: Result<(), Outcome>,
-        store: &mut [u8],
-        settings: &mut [u8],
-        transaction: Transaction<'_>,
-    )
-        requires placed { Placed self.old.rows }
-        requires readiness_value { readiness ≡ readiness_of (held self.old) store.old settings.old }
-        ensures { TakesRecord self.old store.old settings.old transaction.entry self.new store.new settings.new }
-    {
-        let before = self.beside;
-        let step = step_of(
-            readiness,
-            before,
-            self.maximum,
-            store,
-            settings,
-            transaction,
-        );
-        counting::count(&mut self.rows, step.ends, before, step.tally);
-        self.beside = step.beside;
-    }
+// Takes one record as a transaction, counts it in the rows and answers the numbers beside them.
+// The parts of the state come apart: the grid is held in a local as rows, and in no struct.
+fn take_record(
+    readiness: Result<(), Outcome>,
+    rows: &mut [[u64; COLUMNS]; ROW_COUNT],
+    beside: Beside,
+    maximum: u64,
+    store: &mut [u8],
+    settings: &mut [u8],
+    transaction: Transaction<'_>,
+) -> Beside
+    requires placed { Placed rows.old }
+    requires readiness_value { readiness ≡ readiness_of (held rows.old beside maximum) store.old settings.old }
+    ensures { TakesRecord rows.old beside maximum store.old settings.old transaction.entry rows.new result store.new settings.new }
+{
+    let step = step_of(readiness, beside, maximum, store, settings, transaction);
+    counting::count(rows, step.ends, beside, step.tally);
+    step.beside
 }

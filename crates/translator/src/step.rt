@@ -2,7 +2,7 @@
 ghost use Rattle.std.specs.Prelude.{◌≡◌};
 ghost use Rattle.translator.specs.Held.{IsReadiness, Steps, rejected_step};
 
-use crate::numbers::Numbers;
+use crate::open_packet::OpenPacket;
 use crate::tally::Tally;
 use crate::{command, tally};
 use outcome::Outcome;
@@ -39,12 +39,12 @@ pub(crate) fn step_of(
     if beside.total == state::LIMIT {
         return rejected(Outcome::Full, beside);
     }
-    let numbers = Numbers {
+    let open_packet = OpenPacket {
+        fragments: beside.open_fragments,
+        bytes: beside.open_bytes,
         maximum,
-        open_fragments: beside.open_fragments,
-        open_bytes: beside.open_bytes,
     };
-    let judged = command::judge(numbers, store, settings, transaction);
+    let judged = command::judge(open_packet, store, settings, transaction);
     let tally = tally::tally_of(judged, beside);
     Step {
         outcome: judged.outcome,

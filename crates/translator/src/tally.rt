@@ -2,7 +2,7 @@
 ghost use Rattle.std.specs.Prelude.{None, Some, ◌≡◌, ◌≤◌};
 ghost use Rattle.state.specs.Account.{limit, row_number};
 ghost use Rattle.state.specs.State.{max_maximum};
-ghost use Rattle.translator.specs.Counting.{beside_after, cause_tally, judged_tally, left_open, tally, tally_of};
+ghost use Rattle.translator.specs.Counting.{beside_after, cause_tally, left_open, outcome_tally, tally, tally_of};
 ghost use Rattle.translator.specs.Rows.{BesideFits, TallyFits, most};
 
 use crate::judged::Judged;
@@ -40,7 +40,7 @@ pub(crate) const NOTHING: Tally = Tally {
 pub(crate) fn tally_of(judged: Judged, beside: Beside) -> Tally
     requires beside_fits { BesideFits beside }
     requires bytes_le_max_maximum { judged.bytes ≤ max_maximum }
-    ensures { result ≡ judged_tally judged beside }
+    ensures { result ≡ tally_of judged beside }
 {
     let fragments = left_open(judged.ends, beside.open_fragments);
     let bytes = left_open(judged.ends, beside.open_bytes);
@@ -53,7 +53,7 @@ fn outcome_tally(outcome: Outcome, fragments: u64, bytes: u64, size: u64) -> Tal
     requires fragments_le_limit { fragments ≤ limit }
     requires bytes_le_most { bytes ≤ most }
     requires size_le_max_maximum { size ≤ max_maximum }
-    ensures { result ≡ tally_of outcome fragments bytes size }
+    ensures { result ≡ outcome_tally outcome fragments bytes size }
 {
     match outcome {
         Outcome::Joined => left(fragments + 1, bytes + size),

@@ -24,10 +24,10 @@ returns-then-beside-eq-LIMIT c =
     rw c.rejected-then-beside-eq-LIMIT.ensures
     (rejected-steps _ _ _ _ _ _ _ (λ grid e. full_is _ _ _ _ (sym e ∙ c.in_default.is) c.if-beside-eq-LIMIT.true))
 
-pub invariant_of-numbers : goal.invariant_of-numbers
-invariant_of-numbers c =
+pub invariant_of-open_packet : goal.invariant_of-open_packet
+invariant_of-open_packet c =
     let ready : _ = sym c.requires.known ∙ c.in_default.is in
-    record { maximum_le_max_maximum = ready-maximum _ _ _ ready; open_bytes_le_most = (ready-fits _ _ _ ready c.requires.formed).beside.held_bytes }
+    record { maximum_le_max_maximum = ready-maximum _ _ _ ready; bytes_le_most = (ready-fits _ _ _ ready c.requires.formed).beside.held_bytes }
 
 pub tally_of-tally-requires : goal.tally_of-tally-requires
 tally_of-tally-requires c =
