@@ -13,6 +13,7 @@ fn main() {
     };
     link("rust-caller", &archive);
     link("bench-link", &archive);
+    link("bench-print", &archive);
     link("bench-status", &archive);
     if env::var_os("CARGO_FEATURE_BEFORE").is_none() {
         link("bench-calls", &archive);

@@ -4,7 +4,7 @@ use crate::digest::Digest;
 use crate::states::bytes_of;
 use crate::store;
 use crate::store::pattern;
-use crate::text::{Hex, flag};
+use crate::text::{encode_field, flag};
 use outcome::Reply;
 use record::Transaction;
 use state::{Account, Beside, State};
@@ -103,8 +103,8 @@ impl Carried {
     pub(crate) fn show(&self, case: &Case) -> Answer {
         case.fields::<0>()?;
         let bytes = bytes_of(case.alloc, self.state)?;
-        let state = Hex(&bytes);
-        let settings = Hex(&self.settings);
+        let state = encode_field(case.alloc, &bytes)?;
+        let settings = encode_field(case.alloc, &self.settings)?;
         Ok(format!(in case.alloc; "{state} {settings}")?)
     }
 

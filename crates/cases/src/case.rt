@@ -22,6 +22,9 @@ impl From<FromHexError> for CaseError {
     }
 }
 
+// The most fields of a case.
+const MAX_FIELDS: usize = 6;
+
 // The text that answers a case.
 pub(crate) type Answer = Result<String, CaseError>;
 
@@ -37,7 +40,9 @@ impl<'a> Case<'a> {
     pub(crate) fn decode(alloc: Global, line: &'a [u8]) -> Result<Case<'a>, CaseError> {
         let mut words = line.split(|character| *character == b' ');
         let name = words.next().unwrap_or_default();
+        // One field more than a case has shows that there are too many.
         let fields = words
+            .take(MAX_FIELDS + 1)
             .map(|word| Field::decode(alloc, word))
             .try_collect(alloc)?;
         Ok(Case {

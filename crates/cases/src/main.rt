@@ -106,18 +106,22 @@ const CHUNK: usize = 65536;
 fn main(rt: HostRuntime) -> io::Result<()> {
     let mut input = BufReader::with_capacity(rt.alloc(), CHUNK, rt.stdin())?;
     let mut line = Vec::new(rt.alloc());
+    let mut is_too_long = false;
     let mut carried = Carried::new(rt.alloc());
     // A proved loop has an end, here one that no input reaches.
     for _ in 0..u64::MAX {
         line.clear();
         input.by_ref().take(MAX_READ).read_until(b'\n', &mut line)?;
         match line.as_slice() {
-            [] => return Ok(()),
-            [line @ .., b'\n'] => print_answer(&rt, line, &mut carried)?,
-            _ => {
-                input.skip_until(b'\n')?;
+            [line @ .., b'\n'] if !is_too_long => print_answer(&rt, line, &mut carried)?,
+            [.., b'\n'] => {
                 println!(rt; "{}", CaseError::NotACase)?;
+                is_too_long = false;
             }
+            part if part.len() > MAX_LINE => is_too_long = true,
+            // The end of the input, behind a line or in one: it is not read again.
+            [] if !is_too_long => return Ok(()),
+            _ => return println!(rt; "{}", CaseError::NotACase),
         }
     }
     Ok(())
@@ -134,7 +138,11 @@ fn print_answer<R: Print + AllocGlobal>(
         return println!(rt);
     }
     match Case::decode(rt.alloc(), line).and_then(|case| answer(&case, carried)) {
-        Ok(answer) => println!(rt; "{answer}"),
+        // `println!` makes several writes of more than 1024 bytes.
+        Ok(mut answer) => {
+            answer.push('\n')?;
+            rt.write_all(answer.as_bytes())
+        }
         Err(error @ CaseError::NotACase) => println!(rt; "{error}"),
         Err(CaseError::OutOfMemory(error)) => Err(error.into()),
     }

@@ -3,7 +3,7 @@ ghost use Rattle.std.specs.Prelude.{◌<◌};
 
 use crate::case::{Answer, Case, CaseError};
 use crate::store::pattern;
-use crate::text::Hex;
+use crate::text::encode_field;
 use journal::Reading;
 use std::alloc::{AllocError, Global};
 
@@ -19,8 +19,8 @@ pub(crate) fn journal(case: &Case) -> Answer {
         0 => journal::print_journal(journal.bytes(), &mut out),
         size => print_fed(case.alloc, journal.bytes(), size.into(), &mut out)?,
     };
-    let printed = Hex(out.get(..length).unwrap_or_default());
-    Ok(format!(in case.alloc; "{printed}")?)
+    let printed = out.get(..length).unwrap_or_default();
+    Ok(encode_field(case.alloc, printed)?)
 }
 
 // Prints the outcome of a journal that is fed in pieces of a size.
@@ -50,6 +50,6 @@ pub(crate) fn account(case: &Case) -> Answer {
     }
     let mut out = pattern(case.alloc, room, SEED)?;
     let length = printout::print(account.account()?, &mut out);
-    let buffer = Hex(&out);
+    let buffer = encode_field(case.alloc, &out)?;
     Ok(format!(in case.alloc; "{length:04x} {buffer}")?)
 }

@@ -1,6 +1,6 @@
 // The cases of the receive settings and of the addresses in force.
 use crate::case::{Answer, Case};
-use crate::text::{Hex, flag};
+use crate::text::{encode_field, flag};
 use address::{Address, Source};
 
 pub(crate) fn fresh(case: &Case) -> Answer {
@@ -8,7 +8,7 @@ pub(crate) fn fresh(case: &Case) -> Answer {
     let mut settings = Vec::from_slice(case.alloc, settings.bytes())?;
     let freshened = settings::fresh(&mut settings);
     let answer = settings::fresh_number(freshened);
-    let settings = Hex(&settings);
+    let settings = encode_field(case.alloc, &settings)?;
     Ok(format!(in case.alloc; "{answer:02x} {settings}")?)
 }
 
@@ -22,7 +22,7 @@ pub(crate) fn enable(case: &Case) -> Answer {
     let mut settings = Vec::from_slice(case.alloc, settings.bytes())?;
     let enabled = settings::receive_enable(&mut settings, data.bytes());
     let answer = settings::number(enabled);
-    let settings = Hex(&settings);
+    let settings = encode_field(case.alloc, &settings)?;
     Ok(format!(in case.alloc; "{answer:02x} {settings}")?)
 }
 
@@ -35,6 +35,6 @@ pub(crate) fn in_force(case: &Case, address: Address) -> Answer {
         Some(Source::Settings) => 1,
         Some(Source::Flash) => 2,
     };
-    let part = Hex(address::in_force(address, settings, flash));
+    let part = encode_field(case.alloc, address::in_force(address, settings, flash))?;
     Ok(format!(in case.alloc; "{source:02x} {part}")?)
 }

@@ -1,6 +1,6 @@
 // The cases of states and accounts.
 use crate::case::{Answer, Case};
-use crate::text::{Hex, flag};
+use crate::text::{encode_field, flag};
 use state::State;
 use std::alloc::{AllocError, Global};
 
@@ -19,7 +19,7 @@ pub(crate) fn fresh(case: &Case) -> Answer {
     let made = state::fresh(maximum.number()?);
     let answer = made.answer;
     let bytes = bytes_of(case.alloc, made.state)?;
-    let state = Hex(&bytes);
+    let state = encode_field(case.alloc, &bytes)?;
     Ok(format!(in case.alloc; "{answer:02x} {state}")?)
 }
 

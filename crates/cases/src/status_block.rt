@@ -1,6 +1,6 @@
 // The cases of the status block.
 use crate::case::{Answer, Case};
-use crate::text::Hex;
+use crate::text::encode_field;
 use status::Fields;
 
 pub(crate) fn write(case: &Case) -> Answer {
@@ -23,7 +23,7 @@ pub(crate) fn write(case: &Case) -> Answer {
     let answer = status::number(&written);
     let field = status::bad_field_number(&written);
     let block = written.unwrap_or_default();
-    let block = Hex(&block);
+    let block = encode_field(case.alloc, &block)?;
     Ok(format!(in case.alloc; "{answer:02x} {field:02x} {block}")?)
 }
 

@@ -1,22 +1,13 @@
 // What an answer shows.
 use crate::case::Answer;
-use std::alloc::Global;
-use std::fmt;
+use std::alloc::{AllocError, Global};
 
 // Bytes as a field.
-#[derive(Clone, Copy)]
-pub(crate) struct Hex<'a>(pub(crate) &'a [u8]);
-
-impl fmt::Display for Hex<'_> {
-    fn fmt<W: fmt::Write>(&self, f: &mut fmt::Formatter<W>) -> fmt::Result {
-        if self.0.is_empty() {
-            return f.write_str("-");
-        }
-        for byte in self.0 {
-            write!(f, "{byte:02x}")?;
-        }
-        Ok(())
+pub(crate) fn encode_field(alloc: Global, bytes: &[u8]) -> Result<String, AllocError> {
+    if bytes.is_empty() {
+        return String::from_str(alloc, "-");
     }
+    hex::encode(alloc, bytes)
 }
 
 pub(crate) fn flag(alloc: Global, flag: bool) -> Answer {

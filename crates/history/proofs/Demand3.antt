@@ -69,7 +69,7 @@ fresh-reached maximum store settings room = record {
   stored = refl;
   sent_are = refl;
   settings_are = fresh-read settings room;
-  settings_are_sound = ((every-fresh settings).written room).1;
+  settings_are_sound = ((every-fresh.by_answer settings).written room).1;
 }
 
 pub demand3 : Demand3

@@ -3,7 +3,7 @@
 
 mod text;
 
-ghost use Rattle.std.specs.Prelude.{◌≡◌, ◌++◌};
+ghost use Rattle.std.specs.Prelude.{◌≡◌, [], ◌++◌};
 ghost use Rattle.state.specs.Account.{place_of};
 ghost use Rattle.printout.specs.Lines.{cut, name_of};
 ghost use Rattle.printout.specs.Printout.{heading, fates, cells_of, fate_lines, open_packets, count_lines, printout, written, shown, printed};
@@ -24,7 +24,8 @@ pub fn print(account: Account, out: &mut [u8]) -> usize
     if !state::is_account_sound(account) {
         return 0;
     }
-    let text = text_of(account);
+    let mut text = Text::new();
+    put_account(&mut text, account);
     show(text.as_bytes(), out)
 }
 
@@ -41,19 +42,20 @@ pub fn show(text: &[u8], out: &mut [u8]) -> usize
     text.len()
 }
 
-// The printout, whole: none is longer than a text may be.
-fn text_of(account: Account) -> Text
-    ensures { result ≡ printout account }
+// Puts the printout, whole: none is longer than a text may be. Inlined, it would have the grid copied
+// before the account is judged.
+#[inline(never)]
+fn put_account(text: &mut Text, account: Account)
+    requires { text.old ≡ [] }
+    ensures { text.new ≡ printout account }
 {
-    let mut text = Text::new();
-    put_fates(&mut text, account.grid);
-    put_counts(&mut text, account.beside);
-    text
+    put_fates(text, &account.grid);
+    put_counts(text, account.beside);
 }
 
 // Puts the heading and a line for each row.
-fn put_fates(text: &mut Text, grid: [u64; CELLS])
-    ensures { text.new ≡ cut (text.old ++ (heading ++ fate_lines fates grid)) }
+fn put_fates(text: &mut Text, grid: &[u64; CELLS])
+    ensures { text.new ≡ cut (text.old ++ (heading ++ fate_lines fates grid.now)) }
 {
     text.put("fate packets fragments bytes\n");
     for row in ROWS {
@@ -62,8 +64,8 @@ fn put_fates(text: &mut Text, grid: [u64; CELLS])
 }
 
 // The packets, fragments and bytes of a row.
-fn cells_of(grid: [u64; CELLS], row: Row) -> [u64; COLUMNS]
-    ensures { result ≡ cells_of (place_of row) grid }
+fn cells_of(grid: &[u64; CELLS], row: Row) -> [u64; COLUMNS]
+    ensures { result ≡ cells_of (place_of row) grid.now }
 {
     let at = row as usize * COLUMNS;
     [grid[at], grid[at + FRAGMENTS], grid[at + BYTES]]

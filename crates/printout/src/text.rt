@@ -48,8 +48,9 @@ impl Text {
         self.put_bytes(piece.as_bytes());
     }
 
-    // Appends a name and its numbers, as a line.
-    pub(crate) fn put_line(&mut self, name: &str, numbers: &[u64])
+    // Appends a name and its numbers, as a line. How many they are is a const parameter, so that the loop
+    // over them can be unrolled.
+    pub(crate) fn put_line<const N: usize>(&mut self, name: &str, numbers: &[u64; N])
         ensures { self.new ≡ cut (self.old ++ line_of name.now numbers.now) }
     {
         self.put(name);
@@ -69,13 +70,18 @@ impl Text {
         self.put_bytes(&digits[..count]);
     }
 
+    // Two branches: a piece that fits is copied with its own size, which is often known when it is compiled.
     fn put_bytes(&mut self, piece: &[u8])
         ensures { self.new ≡ cut (self.old ++ piece.now) }
     {
-        let room = MAX_PRINTOUT - self.end;
-        let size = room.min(piece.len());
-        let end = self.end + size;
-        self.bytes[self.end..end].copy_from_slice(&piece[..size]);
-        self.end = end;
+        let at = self.end;
+        let room = MAX_PRINTOUT - at;
+        if piece.len() <= room {
+            self.bytes[at..at + piece.len()].copy_from_slice(piece);
+            self.end = at + piece.len();
+        } else {
+            self.bytes[at..at + room].copy_from_slice(&piece[..room]);
+            self.end = at + room;
+        }
     }
 }

@@ -3,7 +3,7 @@
 use Prim.Native.Nat.{ℕ, ◌≤◌}
 use mathlib.Core.Bool.{Bool, true, false}
 use mathlib.Core.List.{List}
-use mathlib.Core.Path.{◌≡◌, refl, ◌∙◌}
+use mathlib.Core.Path.{◌≡◌, refl, ap, ◌∙◌}
 use native.Mathlib.Omega.{arith}
 use native.Mathlib.Nat.{not-le_of_lt}
 use lib.Dec.{eqb, ltb}
@@ -17,7 +17,7 @@ use Rattle.prelude.proofs.Lists.{length_part, drop_past}
 use Rattle.prelude.proofs.Tests.{if-true, if-false, if-cases}
 use Rattle.settings.specs.declared.enable.Refusal.TheVariants.{TooShort, NotSound, BadForm, BadControl, NoMac}
 use Rattle.settings.specs.Layout.{Settings, size, allowed, has_its_mac, sound, settings_in, with_settings, fresh_settings, kept_bits, has_dedicated_mac}
-use Rattle.settings.specs.Enable.{Answer, number_of, answered, short_form_size, long_form_size, short_form, long_form, short_form_answered, long_form_answered, receive_enabled, freshened}
+use Rattle.settings.specs.Enable.{Answer, number_of, fresh_number, freshened_in_numbers, answered, short_form_size, long_form_size, short_form, long_form, short_form_answered, long_form_answered, receive_enabled, freshened}
 use Rattle.settings.specs.Properties.{Recodes, KeepsTheRest, Enables, EveryEnable, Freshens, EveryFresh}
 use Rattle.settings.proofs.Sound.{Sound, sound-tells}
 use Rattle.settings.proofs.Writes.{kept-bits-recoded, settings-recoded, short-form-written, length-chosen}
@@ -148,10 +148,10 @@ every-enable settings bytes =
 pub recodes : Recodes
 recodes settings s = settings-recoded settings (sound-tells settings s).has_room (sound-tells settings s).kept-is-bits
 
-pub every-fresh : EveryFresh
+fresh-by-answer : (settings : List ℕ) → Freshens (Err TooShort) (Ok tt) settings (freshened settings)
 unfolding freshened
-every-fresh settings =
-    if-cases (Freshens settings) (ltb (length settings) size) _ _
+fresh-by-answer settings =
+    if-cases (Freshens (Err TooShort) (Ok tt) settings) (ltb (length settings) size) _ _
     (λ short. record {
       the_rest = (refl, refl);
       refused = λ _. (refl, refl);
@@ -171,3 +171,18 @@ every-fresh settings =
 
     fresh-has-its-mac : has_its_mac 0x40 (kept_bits false false) ≡ true
     fresh-has-its-mac = unfold has_its_mac when◌then◌else◌ in refl
+
+fresh-settings-are : (settings : List ℕ) → (freshened_in_numbers (freshened settings)).settings ≡ (freshened settings).settings
+fresh-settings-are settings = refl
+
+fresh-by-number : (settings : List ℕ) → Freshens 12 0 settings (freshened_in_numbers (freshened settings))
+fresh-by-number settings =
+    let f : Freshens (Err TooShort) (Ok tt) settings (freshened settings) = fresh-by-answer settings in
+    record {
+      the_rest = f.the_rest;
+      refused = λ short. (ap fresh_number (f.refused short).0, (f.refused short).1);
+      written = λ room. (ap fresh_number (f.written room).0, (f.written room).1);
+    }
+
+pub every-fresh : EveryFresh
+every-fresh = record { by_answer = fresh-by-answer; by_number = fresh-by-number; settings_are = fresh-settings-are }

@@ -40,6 +40,10 @@ pub record Answered (A : Type 0) : Type 0 where
 abbrev pub answered : {A : Type 0} → A → List ℕ → Answered A
 answered answer settings = record { answer = answer; settings = settings }
 
+-- fresh settings with the answer number, as C is told it (manual 2.5)
+abbrev pub freshened_in_numbers : Answered Answer → Answered ℕ
+freshened_in_numbers f = answered (fresh_number f.answer) f.settings
+
 -- fresh settings written over what stands there (manual 5.4)
 unfoldable pub freshened : List ℕ → Answered Answer
 freshened settings =

@@ -4,7 +4,7 @@ use Rattle.prelude.specs.Bits.{is_set}
 use Rattle.prelude.specs.Choice.{when◌then◌else◌, ◌or◌}
 use Rattle.settings.specs.declared.enable.Refusal.TheVariants.{TooShort}
 use Rattle.settings.specs.Layout.{size, control_at, kept_at, mac_at, ipv4_at, unread_at, mac_size, ipv4_size, unread_size, kept_bits, has_dedicated_mac, responds_to_arp, settings_in, with_settings, sound}
-use Rattle.settings.specs.Enable.{number_of, Answer, Answered, freshened, short_form_size, long_form_size, receive_enabled}
+use Rattle.settings.specs.Enable.{number_of, Answer, Answered, freshened, freshened_in_numbers, short_form_size, long_form_size, receive_enabled}
 
 -- sound settings are what they hold written out, so that to set one part is to change its bytes alone (manual 5.3)
 abbrev pub Recodes : Type 0
@@ -53,11 +53,15 @@ pub record Writes (before form : List ℕ) (after : Answered Answer) : Type 0 wh
 abbrev pub EveryWriting : Type 0
 EveryWriting = (settings bytes : List ℕ) → Writes settings bytes (receive_enabled settings bytes)
 
--- of fresh settings (manual 5.4)
-pub record Freshens (before : List ℕ) (after : Answered Answer) : Type 0 where
+-- of fresh settings, by what answers that they are too short and that they are written (manual 5.4)
+pub record Freshens {A : Type 0} (short done : A) (before : List ℕ) (after : Answered A) : Type 0 where
   pub the_rest : KeepsTheRest before after.settings
-  pub refused : length before < size → (after.answer ≡ Err TooShort) × (after.settings ≡ before)
-  pub written : size ≤ length before → (after.answer ≡ Ok tt) × (sound after.settings ≡ true)
+  pub refused : length before < size → (after.answer ≡ short) × (after.settings ≡ before)
+  pub written : size ≤ length before → (after.answer ≡ done) × (sound after.settings ≡ true)
 
-abbrev pub EveryFresh : Type 0
-EveryFresh = (settings : List ℕ) → Freshens settings (freshened settings)
+-- the answer, and its number, which is what C is told (manual 2.1, 2.5, 5.4)
+pub record EveryFresh : Type 0 where
+  pub by_answer : (settings : List ℕ) → Freshens (Err TooShort) (Ok tt) settings (freshened settings)
+  pub by_number : (settings : List ℕ) → Freshens 12 0 settings (freshened_in_numbers (freshened settings))
+  -- and the settings are the same with either
+  pub settings_are : (settings : List ℕ) → (freshened_in_numbers (freshened settings)).settings ≡ (freshened settings).settings

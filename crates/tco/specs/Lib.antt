@@ -2,7 +2,6 @@ pub mod Link
 pub mod Part
 pub mod Properties
 pub mod Reply
-pub mod Settings
 pub mod Status
 pub mod Step
 pub mod Unique

@@ -6,12 +6,11 @@ ghost use Rattle.std.specs.Prelude.{◌≡◌};
 ghost use Rattle.address.specs.Address.{source_of};
 ghost use Rattle.printout.specs.Printout.{written as printout_written, printed};
 ghost use Rattle.record.specs.Transaction.{transaction};
-ghost use Rattle.settings.specs.Enable.{answered, freshened};
+ghost use Rattle.settings.specs.Enable.{answered, freshened, freshened_in_numbers};
 ghost use Rattle.state.specs.State.{made};
 ghost use Rattle.tco.specs.Reply.{InPlace};
 ghost use Rattle.tco.specs.Part.{shown_length, part_from, mac_in_force, ipv4_in_force};
 ghost use Rattle.tco.specs.Link.{decided_over};
-ghost use Rattle.tco.specs.Settings.{freshened_in_numbers};
 ghost use Rattle.tco.specs.Status.{written_in_numbers, read_in_numbers};
 
 use address::{Address, Source};

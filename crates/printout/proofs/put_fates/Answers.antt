@@ -7,10 +7,10 @@ use Rattle.printout.proofs.Lines.{row-put}
 use Rattle.printout.proofs.put_fates.Goals as goal
 
 pub loop-row-preserved : goal.loop-row-preserved
-loop-row-preserved c = row-put c.args.text.now c.args.grid c.loop-row.row-index c.loop-row-test.true c.loop-row.invariant c.name_of.ensures c.cells_of.ensures c.put_line.ensures
+loop-row-preserved c = row-put c.args.text.now c.args.grid.now c.loop-row.row-index c.loop-row-test.true c.loop-row.invariant c.name_of.ensures c.cells_of.ensures c.put_line.ensures
 
 pub returns : goal.returns
 unfolding fate_lines
 returns c =
     let nine : c.loop-row.row-index ≡ row_count = omega arith in
-    c.loop-row.invariant ∙ ap (λ (n : ℕ). cut (c.args.text.now ++ (heading ++ flat_map (row_line c.args.grid) (take n ROWS)))) nine
+    c.loop-row.invariant ∙ ap (λ (n : ℕ). cut (c.args.text.now ++ (heading ++ flat_map (row_line c.args.grid.now) (take n ROWS)))) nine
