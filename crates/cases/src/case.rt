@@ -40,11 +40,14 @@ impl<'a> Case<'a> {
     pub(crate) fn decode(alloc: Global, line: &'a [u8]) -> Result<Case<'a>, CaseError> {
         let mut words = line.split(|character| *character == b' ');
         let name = words.next().unwrap_or_default();
-        // One field more than a case has shows that there are too many.
-        let fields = words
+        // One field more than a case has is enough to see that there are too many.
+        let fields: Vec<Field> = words
             .take(MAX_FIELDS + 1)
             .map(|word| Field::decode(alloc, word))
             .try_collect(alloc)?;
+        if fields.len() > MAX_FIELDS {
+            return Err(CaseError::NotACase);
+        }
         Ok(Case {
             name,
             fields,
