@@ -23,6 +23,12 @@ unfolding when◌then◌else◌
 if-congruence true a b c d p q = p refl
 if-congruence false a b c d p q = q refl
 
+-- what ties the choices of two by one test ties the two
+pub if-both : {A B : Type 0} (P : A → B → Type 0) (t : Bool) (a b : A) (c d : B) → (t ≡ true → P a c) → (t ≡ false → P b d) → P (when t then a else b) (when t then c else d)
+unfolding when◌then◌else◌
+if-both P true a b c d p q = p refl
+if-both P false a b c d p q = q refl
+
 -- what holds of both choices, each where its test says so, holds of the choice
 pub if-cases : {A : Type 0} (P : A → Type 0) (t : Bool) (a b : A) → (t ≡ true → P a) → (t ≡ false → P b) → P (when t then a else b)
 unfolding when◌then◌else◌

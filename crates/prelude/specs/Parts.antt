@@ -2,6 +2,10 @@
 use Rattle.std.specs.Prelude.{ℕ, ◌+◌, ◌≤◌, ◌<◌, List, ◌++◌, ◌⊎◌, ◌≡◌, length, get_or, take, drop}
 use Rattle.std.specs.Borrow.{Bor}
 
+-- each of them is a byte
+abbrev pub AreBytes : List ℕ → Type 0
+AreBytes bytes = (place : ℕ) → get_or bytes place 0 < 256
+
 -- `size` bytes, from place `at` on
 abbrev pub part : ℕ → ℕ → List ℕ → List ℕ
 part at size bytes = take size (drop at bytes)

@@ -1,0 +1,11 @@
+pub mod Computed
+pub mod Division
+pub mod EightBits
+pub mod Entries
+pub mod Framed
+pub mod Linear
+pub mod Properties
+pub mod Runs
+pub mod Telling
+pub mod Unique
+pub mod Xor
