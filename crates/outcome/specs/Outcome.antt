@@ -5,7 +5,7 @@ use Rattle.settings.specs.Enable.{refusal_number}
 use Rattle.outcome.specs.declared.Cause.{Cause}
 use Rattle.outcome.specs.declared.Cause.TheVariants.{Aborted, BadLength, Over, Short, LinkDown}
 use Rattle.outcome.specs.declared.Outcome.{Outcome}
-use Rattle.outcome.specs.declared.Outcome.TheVariants.{Joined, Sent, Discarded, Unknown, Refused, Taken, NoRoom, NotSound, Full}
+use Rattle.outcome.specs.declared.Outcome.TheVariants.{Joined, Sent, Discarded, Unknown, Refused, Taken, NoRoom, NotSound, Full, BadCheck}
 use Rattle.outcome.specs.declared.Reply.{Reply}
 
 -- the answer numbers (manual 2.1)
@@ -26,6 +26,7 @@ number_of Taken = 11
 number_of NoRoom = 12
 number_of NotSound = 13
 number_of Full = 14
+number_of BadCheck = 17
 
 -- the sent length, and 0 where no packet was sent (manual 2.4)
 abbrev pub sent_length_of : Outcome → ℕ
@@ -38,6 +39,7 @@ sent_length_of Taken = 0
 sent_length_of NoRoom = 0
 sent_length_of NotSound = 0
 sent_length_of Full = 0
+sent_length_of BadCheck = 0
 
 -- both of these (manual 2.1, 2.4)
 abbrev pub reply_to : Outcome → Reply

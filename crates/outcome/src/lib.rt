@@ -27,6 +27,8 @@ pub enum Outcome {
     NotSound,
     // 14: the account is full.
     Full,
+    // 17: the check is on, and the transaction's code is not that of its bytes, or they have none.
+    BadCheck,
 }
 
 // Why a fragment or its packet was not sent.
@@ -89,6 +91,7 @@ impl From<Outcome> for u32 {
             Outcome::NoRoom => 12,
             Outcome::NotSound => 13,
             Outcome::Full => 14,
+            Outcome::BadCheck => 17,
         }
     }
 }

@@ -9,16 +9,24 @@ use native.Mathlib.Nat.{le_of_suc-le-suc, not-suc-le-zero, eq-or-lt_of_le}
 use native.Mathlib.Numerals.{add-one}
 use native.Mathlib.Omega.{arith}
 use lib.Dec.{eqb}
-use borrow.Author.Tests.{le-leb, ne_eqb}
+use borrow.Author.Tests.{le-leb, eqb-true, ne_eqb}
 use Rattle.prelude.specs.Choice.{when◌then◌else◌, ◌and◌}
 use Rattle.prelude.proofs.Tests.{if-true, if-false, if-first, if-second, eqb-iff}
-use Rattle.state.specs.Account.{row_count, badlength, packets_in, fragments_in, bytes_in, all_fragments}
-use Rattle.state.specs.Sound.{row_sound, rows_sound}
+use Rattle.state.specs.Account.{row_count, badcheck, packets_in, fragments_in, bytes_in, all_fragments}
+use Rattle.state.specs.Grid.{flat_of, cell}
+use Rattle.state.specs.Sound.{row_sound, rows_sound, singles_sound}
 use Rattle.state.specs.State.{max_maximum}
+use Rattle.state.proofs.Rows.{cell-flat}
 
 -- the test of a row in the grid
 abbrev pub row_sound_at : ℕ → List ℕ → Bool
 row_sound_at row grid = row_sound (packets_in row grid) (fragments_in row grid) (bytes_in row grid)
+
+-- the same in rows
+pub row-flat : (r : List (List ℕ)) (row : ℕ) → row < row_count → row_sound_at row (flat_of r) ≡ row_sound (cell r row 0) (cell r row 1) (cell r row 2)
+row-flat r row h =
+    let cells : _ = cell-flat r row h in
+    rw (cells.0, cells.1, cells.2) refl
 
 pub and-false : (a b : Bool) → b ≡ false → (a and b) ≡ false
 unfolding when◌then◌else◌
@@ -62,10 +70,17 @@ all-fragments-grow (suc m) (suc n) grid h =
     (eq-or-lt_of_le h)
 
 -- a row without packets and bytes is sound
-pub empty-row-sound : (packets fragments bytes : ℕ) → packets ≡ 0 → bytes ≡ 0 → row_sound packets fragments bytes ≡ true
+empty-row-sound : (packets fragments bytes : ℕ) → packets ≡ 0 → bytes ≡ 0 → row_sound packets fragments bytes ≡ true
 unfolding row_sound
 empty-row-sound packets fragments bytes p b =
     if-true _ _ _ (le-leb packets fragments (omega arith)) ∙ le-leb bytes (max_maximum * fragments) (omega arith)
+
+-- the last row is, where those of single fragments are as they have to be
+pub badcheck-sound : (grid : List ℕ) → singles_sound grid ≡ true → row_sound_at badcheck grid ≡ true
+unfolding singles_sound
+badcheck-sound grid h =
+    let last : _ = if-second _ _ (if-second _ _ (if-second _ _ h)) in
+    empty-row-sound _ _ _ (eqb-true _ _ (if-first _ _ last)) (eqb-true _ _ (if-second _ _ last))
 
 -- what is left of the number wanted once the fragments of some rows are taken from it
 module _ (grid : List ℕ) (wanted row left : ℕ) (taken : left + all_fragments row grid ≡ wanted) where
@@ -73,8 +88,8 @@ module _ (grid : List ℕ) (wanted row left : ℕ) (taken : left + all_fragments
   too_many l more =
       ne_eqb (all_fragments row_count grid) wanted (λ e. omega (arith, e, all-fragments-next row grid, all-fragments-grow (row + 1) row_count grid (omega arith)))
 
-  pub last-is-left : row ≡ badlength → eqb (fragments_in badlength grid) left ≡ eqb (all_fragments row_count grid) wanted
+  pub last-is-left : row ≡ badcheck → eqb (fragments_in badcheck grid) left ≡ eqb (all_fragments row_count grid) wanted
   last-is-left e =
-      let all : all_fragments row_count grid ≡ all_fragments badlength grid + fragments_in badlength grid = all-fragments-next badlength grid in
-      let before : left + all_fragments badlength grid ≡ wanted = rw e at taken in
-      eqb-iff (fragments_in badlength grid) left (all_fragments row_count grid) wanted (λ e. omega arith) (λ e. omega arith)
+      let all : all_fragments row_count grid ≡ all_fragments badcheck grid + fragments_in badcheck grid = all-fragments-next badcheck grid in
+      let before : left + all_fragments badcheck grid ≡ wanted = rw e at taken in
+      eqb-iff (fragments_in badcheck grid) left (all_fragments row_count grid) wanted (λ e. omega arith) (λ e. omega arith)

@@ -15,7 +15,7 @@ use Rattle.state.specs.declared.Account.{Account}
 use Rattle.state.specs.declared.State.{State}
 use Rattle.state.specs.Account.{limit, row_count, packets_in, fragments_in, bytes_in, all_fragments}
 use Rattle.state.specs.Sound.{row_sound, rows_sound, singles_sound, open_sound, sum_holds, account_sound, sound}
-use Rattle.state.specs.State.{max_maximum}
+use Rattle.state.specs.State.{max_maximum, check_on}
 
 -- what is known of a sound account
 pub record AccountSound (a : Account) : Type 0 where
@@ -56,23 +56,28 @@ pub record Sound (s : State) : Type 0 where
   pub least : 1 ≤ s.maximum
   pub most : s.maximum ≤ max_maximum
   pub bytes-within : s.account.beside.open_bytes ≤ s.maximum * s.account.beside.open_fragments
+  pub check-allowed : s.check ≤ check_on
 
 pub sound-tells : (s : State) → sound s ≡ true → Sound s
 unfolding sound
 sound-tells s h =
     let least : _ = if-second _ _ h in
     let most : _ = if-second _ _ least in
+    let bytes : _ = if-second _ _ most in
     record {
       account-is-sound = if-first _ _ h;
       least = leb-true _ _ (if-first _ _ least);
       most = leb-true _ _ (if-first _ _ most);
-      bytes-within = leb-true _ _ (if-second _ _ most);
+      bytes-within = leb-true _ _ (if-first _ _ bytes);
+      check-allowed = leb-true _ _ (if-second _ _ bytes);
     }
 
 pub sound-if : (s : State) → Sound s → sound s ≡ true
 unfolding sound
 sound-if s k =
-    if-true _ _ _ k.account-is-sound ∙ (if-true _ _ _ (le-leb _ _ k.least) ∙ (if-true _ _ _ (le-leb _ _ k.most) ∙ le-leb _ _ k.bytes-within))
+    if-true _ _ _ k.account-is-sound
+    ∙ (if-true _ _ _ (le-leb _ _ k.least)
+    ∙ (if-true _ _ _ (le-leb _ _ k.most) ∙ (if-true _ _ _ (le-leb _ _ k.bytes-within) ∙ le-leb _ _ k.check-allowed)))
 
 module _ (a : Account) where
   abbrev f : ℕ

@@ -5,6 +5,8 @@ use Rattle.prelude.specs.Unique.{OneResult}
 use Rattle.prelude.proofs.Promise.{one-result}
 use Rattle.state.proofs.fresh.Kinds as fresh-kinds
 use Rattle.state.proofs.fresh.Reads as fresh-reads
+use Rattle.state.proofs.State.setup.Kinds as setup-kinds
+use Rattle.state.proofs.State.setup.Reads as setup-reads
 use Rattle.state.proofs.sound.is_sound.Kinds as is-sound-kinds
 use Rattle.state.proofs.sound.is_sound.Reads as is-sound-reads
 use Rattle.state.proofs.sound.is_account_sound.Kinds as is-account-sound-kinds
@@ -18,6 +20,9 @@ use Rattle.state.proofs.grid.flat_of.Reads as flat-of-reads
 
 pub fresh-unique : OneResult 0 fresh-kinds.ps fresh-kinds.r fresh-reads.Learnt
 fresh-unique κs a r₁ r₂ w₁ w₂ p q = (one-result p q, refl)
+
+pub setup-unique : OneResult 0 setup-kinds.ps setup-kinds.r setup-reads.Learnt
+setup-unique κs a r₁ r₂ w₁ w₂ p q = (one-result p q, refl)
 
 pub is-sound-unique : OneResult 0 is-sound-kinds.ps is-sound-kinds.r is-sound-reads.Learnt
 is-sound-unique κs a r₁ r₂ w₁ w₂ p q = (one-result p q, refl)

@@ -37,8 +37,11 @@ aborted = 7
 abbrev pub badlength : ℕ
 badlength = 8
 
+abbrev pub badcheck : ℕ
+badcheck = 9
+
 abbrev pub row_count : ℕ
-row_count = 9
+row_count = 10
 
 -- the number of a row (manual 8.2)
 abbrev pub place_of : Row → ℕ
@@ -51,6 +54,7 @@ place_of row.Short = short
 place_of row.LinkDown = linkdown
 place_of row.Aborted = aborted
 place_of row.BadLength = badlength
+place_of row.BadCheck = badcheck
 
 -- in the place of a row's number where there is no row (manual 8.4)
 abbrev pub no_row : ℕ

@@ -3,8 +3,8 @@ use Rattle.std.specs.Prelude.{ℕ, zero, suc, ◌+◌, ◌*◌, Bool, true, List
 use Rattle.prelude.specs.Choice.{◌and◌}
 use Rattle.state.specs.declared.Account.{Account}
 use Rattle.state.specs.declared.State.{State}
-use Rattle.state.specs.Account.{limit, row_count, aborted, badlength, packets_in, fragments_in, bytes_in, all_fragments}
-use Rattle.state.specs.State.{max_maximum}
+use Rattle.state.specs.Account.{limit, row_count, aborted, badlength, badcheck, packets_in, fragments_in, bytes_in, all_fragments}
+use Rattle.state.specs.State.{max_maximum, check_on}
 
 -- a row has no more packets than fragments, and at most 240 bytes for each fragment (manual 8.7)
 unfoldable pub row_sound : ℕ → ℕ → ℕ → Bool
@@ -15,9 +15,15 @@ unfoldable pub rows_sound : ℕ → List ℕ → Bool
 rows_sound zero grid = true
 rows_sound (suc row) grid = rows_sound row grid and row_sound (packets_in row grid) (fragments_in row grid) (bytes_in row grid)
 
--- the rows of single fragments have no packets, and badlength no bytes (manual 8.7)
+-- a row of single fragments has no packets (manual 8.7)
+abbrev pub has_no_packets : ℕ → List ℕ → Bool
+has_no_packets row grid = eqb (packets_in row grid) 0
+
+-- badlength and badcheck have no bytes either (manual 8.7)
 unfoldable pub singles_sound : List ℕ → Bool
-singles_sound grid = eqb (packets_in aborted grid) 0 and eqb (packets_in badlength grid) 0 and eqb (bytes_in badlength grid) 0
+singles_sound grid =
+    has_no_packets aborted grid and has_no_packets badlength grid and eqb (bytes_in badlength grid) 0
+    and has_no_packets badcheck grid and eqb (bytes_in badcheck grid) 0
 
 -- the open packet has at least one byte and at most 240 for each fragment (manual 8.7)
 unfoldable pub open_sound : ℕ → ℕ → Bool
@@ -36,10 +42,11 @@ account_sound a =
     and open_sound a.beside.open_fragments a.beside.open_bytes
     and sum_holds a.grid a.beside.open_fragments a.beside.taken a.beside.refused a.beside.total
 
--- the maximum is allowed, and bounds the open packet (manual 8.8)
+-- the maximum is allowed, and bounds the open packet; the check is on or off (manual 8.8, 10.1)
 unfoldable pub sound : State → Bool
 sound s =
     account_sound s.account
     and leb 1 s.maximum
     and leb s.maximum max_maximum
     and leb s.account.beside.open_bytes (s.maximum * s.account.beside.open_fragments)
+    and leb s.check check_on

@@ -7,7 +7,7 @@ mod row;
 mod sound;
 
 ghost use Rattle.std.specs.Prelude.{◌≡◌};
-ghost use Rattle.state.specs.State.{fresh_state, made};
+ghost use Rattle.state.specs.State.{check_number, fresh_state, made, setup_in};
 
 pub use grid::{flat_of, rows_of};
 pub use row::Row;
@@ -43,6 +43,16 @@ pub struct State {
     pub account: Account,
     // The most data bytes of a fragment, 1 to MAX_MAXIMUM.
     pub maximum: u64,
+    // CHECK_ON, where a transaction's code is checked, or CHECK_OFF. A number and no bool: a state comes
+    // back from C with any number here.
+    pub check: u8,
+}
+
+// What is fixed when a state is made.
+#[derive(Clone, Copy)]
+pub struct Setup {
+    pub maximum: u64,
+    pub check: u8,
 }
 
 // A fresh state, and the answer: 0, or 16 with the state for MAX_MAXIMUM.
@@ -59,7 +69,11 @@ pub const LIMIT: u64 = 4294967295;
 
 pub const MAX_MAXIMUM: u64 = 240;
 
-pub const ROW_COUNT: usize = 9;
+pub const CHECK_OFF: u8 = 0;
+
+pub const CHECK_ON: u8 = 1;
+
+pub const ROW_COUNT: usize = 10;
 
 // The rows, as they are counted and printed.
 pub const ROWS: [Row; ROW_COUNT] = [
@@ -72,6 +86,7 @@ pub const ROWS: [Row; ROW_COUNT] = [
     Row::LinkDown,
     Row::Aborted,
     Row::BadLength,
+    Row::BadCheck,
 ];
 
 // Columns of a row.
@@ -85,30 +100,55 @@ pub const COLUMNS: usize = 3;
 
 pub const CELLS: usize = ROW_COUNT * COLUMNS;
 
-const DONE: u32 = 0;
+// The answer of a call that is done.
+pub const DONE: u32 = 0;
 
 const BAD_MAXIMUM: u32 = 16;
 
-// Makes a fresh state for fragments of at most `maximum` data bytes.
+impl State {
+    pub fn setup(self) -> Setup
+        ensures { result ≡ setup_in self }
+    {
+        Setup {
+            maximum: self.maximum,
+            check: self.check,
+        }
+    }
+}
+
+// Makes a fresh state for fragments of at most `maximum` data bytes, with the check on or off.
 #[tactic(auto, using(prelude::proofs::Tests::tests), unfolding(crate::specs::State::made))]
-pub fn fresh(maximum: u32) -> Made
-    ensures { result ≡ made maximum }
+pub fn fresh(maximum: u32, check: bool) -> Made
+    ensures { result ≡ made maximum check }
 {
     let maximum = u64::from(maximum);
+    let check = check_number(check);
     if maximum < 1 || MAX_MAXIMUM < maximum {
         return Made {
             answer: BAD_MAXIMUM,
-            state: empty(MAX_MAXIMUM),
+            state: empty(Setup {
+                maximum: MAX_MAXIMUM,
+                check,
+            }),
         };
     }
     Made {
         answer: DONE,
-        state: empty(maximum),
+        state: empty(Setup { maximum, check }),
     }
 }
 
-fn empty(maximum: u64) -> State
-    ensures { result ≡ fresh_state maximum }
+fn check_number(check: bool) -> u8
+    ensures { result ≡ check_number check }
+{
+    if check {
+        return CHECK_ON;
+    }
+    CHECK_OFF
+}
+
+fn empty(setup: Setup) -> State
+    ensures { result ≡ fresh_state setup }
 {
     State {
         account: Account {
@@ -121,6 +161,7 @@ fn empty(maximum: u64) -> State
                 total: 0,
             },
         },
-        maximum,
+        maximum: setup.maximum,
+        check: setup.check,
     }
 }

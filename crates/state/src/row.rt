@@ -12,4 +12,5 @@ pub enum Row {
     LinkDown,
     Aborted,
     BadLength,
+    BadCheck,
 }

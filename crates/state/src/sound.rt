@@ -3,60 +3,66 @@
 ghost use Rattle.std.specs.Prelude.{◌≡◌, ◌≤◌, eqb};
 ghost use Rattle.prelude.specs.Choice.{◌and◌};
 ghost use Rattle.state.specs.Account.{account_of, all_fragments, limit, row_count};
+ghost use Rattle.state.specs.Grid.{flat_of};
 ghost use Rattle.state.specs.Sound.{account_sound, open_sound, row_sound, rows_sound, singles_sound, sound};
 ghost use Rattle.state.specs.State.{state_of};
 
+use crate::grid::rows_of;
 use crate::{
-    Account, BYTES, Beside, CELLS, COLUMNS, FRAGMENTS, LIMIT, MAX_MAXIMUM, PACKETS, Row, State,
+    Account, BYTES, Beside, CHECK_ON, COLUMNS, FRAGMENTS, LIMIT, MAX_MAXIMUM, PACKETS, ROW_COUNT,
+    Row, Setup, State,
 };
 
-// The rows that hold single fragments, and their cells.
+// The rows that hold single fragments.
 const ABORTED: usize = Row::Aborted as usize;
 
 const BADLENGTH: usize = Row::BadLength as usize;
 
-const ABORTED_PACKETS: usize = ABORTED * COLUMNS + PACKETS;
-
-const BADLENGTH_PACKETS: usize = BADLENGTH * COLUMNS + PACKETS;
-
-const BADLENGTH_FRAGMENTS: usize = BADLENGTH * COLUMNS + FRAGMENTS;
-
-const BADLENGTH_BYTES: usize = BADLENGTH * COLUMNS + BYTES;
+const BADCHECK: usize = Row::BadCheck as usize;
 
 // Whether the state is sound.
 pub fn is_sound(state: State) -> bool
     ensures { result ≡ sound state }
 {
-    are_sound(&state.account.grid, state.account.beside, state.maximum)
+    are_sound(
+        &rows_of(state.account.grid),
+        state.account.beside,
+        state.setup(),
+    )
 }
 
 // Whether the account is sound.
 pub fn is_account_sound(account: Account) -> bool
     ensures { result ≡ account_sound account }
 {
-    is_grid_sound(&account.grid, account.beside)
+    is_sound_account(&rows_of(account.grid), account.beside)
 }
 
-// Whether the state of a grid, of the numbers beside it and of a maximum is sound.
+// Whether the state of these rows, of the numbers beside them and of a setup is sound.
 #[tactic(auto, using(prelude::proofs::Tests::tests), unfolding(crate::specs::Sound::sound))]
-pub fn are_sound(grid: &[u64; CELLS], beside: Beside, maximum: u64) -> bool
-    ensures { result ≡ sound (state_of grid.now beside maximum) }
+pub fn are_sound(rows: &[[u64; COLUMNS]; ROW_COUNT], beside: Beside, setup: Setup) -> bool
+    ensures { result ≡ sound (state_of (flat_of rows.now) beside setup) }
 {
-    if !is_grid_sound(grid, beside) {
+    if !is_sound_account(rows, beside) {
         return false;
     }
-    if maximum < 1 {
+    if setup.maximum < 1 {
         return false;
     }
-    if MAX_MAXIMUM < maximum {
+    if MAX_MAXIMUM < setup.maximum {
         return false;
     }
-    beside.open_bytes <= maximum * beside.open_fragments
+    if setup.maximum * beside.open_fragments < beside.open_bytes {
+        return false;
+    }
+    setup.check <= CHECK_ON
 }
 
-// Whether the account of a grid and of the numbers beside it is sound.
-fn is_grid_sound(grid: &[u64; CELLS], beside: Beside) -> bool
-    ensures { result ≡ account_sound (account_of grid.now beside) }
+// Whether the account of these rows and of the numbers beside them is sound. Always inlined: a transaction
+// takes some hundredths longer where this is called.
+#[inline(always)]
+fn is_sound_account(rows: &[[u64; COLUMNS]; ROW_COUNT], beside: Beside) -> bool
+    ensures { result ≡ account_sound (account_of (flat_of rows.now) beside) }
 {
     if LIMIT < beside.total {
         return false;
@@ -75,7 +81,7 @@ fn is_grid_sound(grid: &[u64; CELLS], beside: Beside) -> bool
     if left < beside.refused {
         return false;
     }
-    are_rows_sound(grid, left - beside.refused)
+    are_rows_sound(rows, left - beside.refused)
 }
 
 // Whether an open packet of no more fragments than an account has is sound. The bound stands in three
@@ -92,33 +98,47 @@ fn is_open_sound(fragments: u64, bytes: u64) -> bool
 }
 
 // Whether each row is sound, and all of them have as many fragments as are wanted. They are taken
-// from that number one by one; those of badlength, the last row, are what is left.
-fn are_rows_sound(grid: &[u64; CELLS], wanted: u64) -> bool
+// from that number one by one; those of badcheck, the last row, are what is left.
+fn are_rows_sound(rows: &[[u64; COLUMNS]; ROW_COUNT], wanted: u64) -> bool
     requires { wanted ≤ limit }
-    ensures { result ≡ (rows_sound row_count grid.now and (singles_sound grid.now and eqb (all_fragments row_count grid.now) wanted)) }
+    ensures { result ≡ (rows_sound row_count (flat_of rows.now) and (singles_sound (flat_of rows.now) and eqb (all_fragments row_count (flat_of rows.now)) wanted)) }
 {
     let mut left = wanted;
-    for row in 0..BADLENGTH {
-        let at = row * COLUMNS;
-        let fragments = grid[at + FRAGMENTS];
+    for row in 0..BADCHECK {
+        let cells = rows[row];
+        let fragments = cells[FRAGMENTS];
         if left < fragments {
             return false;
         }
-        if !is_row_sound(grid[at + PACKETS], fragments, grid[at + BYTES]) {
+        if !is_row_sound(cells[PACKETS], fragments, cells[BYTES]) {
             return false;
         }
         left -= fragments;
     }
-    if grid[ABORTED_PACKETS] != 0 {
+    if !are_singles_sound(rows) {
         return false;
     }
-    if grid[BADLENGTH_PACKETS] != 0 {
+    rows[BADCHECK][FRAGMENTS] == left
+}
+
+// Whether the rows of single fragments have no packets, and badlength and badcheck no bytes.
+#[tactic(auto, using(prelude::proofs::Tests::tests), unfolding(crate::specs::Sound::singles_sound))]
+fn are_singles_sound(rows: &[[u64; COLUMNS]; ROW_COUNT]) -> bool
+    ensures { result ≡ singles_sound (flat_of rows.now) }
+{
+    if rows[ABORTED][PACKETS] != 0 {
         return false;
     }
-    if grid[BADLENGTH_BYTES] != 0 {
+    if rows[BADLENGTH][PACKETS] != 0 {
         return false;
     }
-    grid[BADLENGTH_FRAGMENTS] == left
+    if rows[BADLENGTH][BYTES] != 0 {
+        return false;
+    }
+    if rows[BADCHECK][PACKETS] != 0 {
+        return false;
+    }
+    rows[BADCHECK][BYTES] == 0
 }
 
 // Whether a row of no more fragments than an account has is sound.

@@ -2,7 +2,7 @@ use Rattle.std.proofs.Common.{◌∙◌, sym}
 use borrow.Author.Tests.{le-leb}
 use Rattle.prelude.proofs.Tests.{tests, if-true}
 use Rattle.state.proofs.Soundness.{sound-in-order}
-use Rattle.state.proofs.sound.is_grid_sound.Goals as goal
+use Rattle.state.proofs.sound.is_sound_account.Goals as goal
 
 pub returns-then-beside-gt-LIMIT : goal.returns-then-beside-gt-LIMIT
 returns-then-beside-gt-LIMIT c = sym (sound-in-order _ ∙ search tests)
