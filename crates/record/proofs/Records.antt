@@ -1,143 +1,106 @@
--- Records at a place of some bytes, and those from that place on.
+-- The records of some bytes, by what stands at their front or at a place of them.
 -- Assumes nothing.
 use Prim.Native.Nat.{ℕ, zero, suc, ◌+◌, ◌-◌, ◌≤◌, ◌<◌}
 use mathlib.Core.Bool.{Bool, true, false}
 use mathlib.Core.List.{List, [], ◌∷◌}
 use mathlib.Core.Path.{◌≡◌, refl, ap, ◌∙◌}
-use native.Mathlib.Nat.{le_of_suc-le-suc, not-suc-le-zero, add-zero}
+use native.Mathlib.Nat.{le_of_suc-le-suc, not-suc-le-zero}
 use native.Mathlib.Omega.{arith}
-use lib.Dec.{eqb, ltb}
-use lib.ListN.{length, get_or, take, drop, length-drop}
-use lib.Seq.{get_or-drop, drop-drop, length-take-le}
+use lib.ListN.{length, drop}
+use lib.Seq.{drop-drop}
 use Rattle.std.specs.Prelude.{Result, Ok, Err, IfOk}
-use borrow.Author.Tests.{ltb-true, ltb-false, lt-ltb, le-ltb}
-use Rattle.prelude.proofs.Tests.{if-true, if-false, if-cases}
-use Rattle.record.specs.Records.{Records, none, one, records_after, records_in, found_at}
-use Rattle.record.specs.Transaction.{transaction}
+use Rattle.record.specs.Records.{Records, none, record_at, found_at, transaction_in, found_then, skipped_by, records_after, records_in}
 use Rattle.record.specs.declared.Record.{Record}
 use Rattle.record.specs.declared.Stop.{Stop}
 use Rattle.record.specs.declared.Stop.TheVariants as stop
+use Rattle.record.proofs.Found.{Tells, whole, bad-link, cut, found-tells, placed_if, found-placed}
 
 -- what is skipped may as well be dropped
-pub after-skip : (n : ℕ) (bytes : List ℕ) → n ≤ length bytes → records_after n bytes ≡ records_in (drop n bytes)
+pub after-skip : (check : Bool) (n : ℕ) (bytes : List ℕ) → n ≤ length bytes → records_after check n bytes ≡ records_in check (drop n bytes)
 unfolding records_after
-after-skip zero bytes h = refl
-after-skip (suc n) [] h = refl
-after-skip (suc n) (x ∷ rest) h = after-skip n rest (le_of_suc-le-suc h)
+after-skip check zero bytes h = refl
+after-skip check (suc n) [] h = refl
+after-skip check (suc n) (x ∷ rest) h = after-skip check n rest (le_of_suc-le-suc h)
 
--- the records of some bytes, by what their front is
-too_few : (xs : List ℕ) → length xs < 2 → records_in xs ≡ none false
-unfolding records_after
-too_few [] h = refl
-too_few (x ∷ []) h = refl
-too_few (x ∷ y ∷ rest) h = absurd (omega arith)
+-- the records of some bytes, by what stands at their front
+abbrev pub by_front : (check : Bool) → List ℕ → Result Record Stop → Records
+by_front check bytes (Err stop.Cut) = none false
+by_front check bytes (Err stop.BadLink) = none true
+by_front check bytes (Ok r) = found_then bytes (Ok r) (records_in check (drop r.next bytes))
 
-pub bad-link : (xs : List ℕ) → 2 ≤ length xs → ltb 1 (get_or xs 1 0) ≡ true → records_in xs ≡ none true
+pub records-by-front : (check : Bool) (bytes : List ℕ) → records_in check bytes ≡ by_front check bytes (found_at check bytes 0)
 unfolding records_after
-bad-link [] h e = absurd (omega arith)
-bad-link (x ∷ []) h e = absurd (omega arith)
-bad-link (x ∷ y ∷ []) h e = ap none e
-bad-link (x ∷ y ∷ z ∷ rest) h e = if-true _ _ _ e
-
-no_size : (xs : List ℕ) → length xs < 3 → ltb 1 (get_or xs 1 0) ≡ false → records_in xs ≡ none false
-unfolding records_after
-no_size [] h e = refl
-no_size (x ∷ []) h e = refl
-no_size (x ∷ y ∷ []) h e = ap none e
-no_size (x ∷ y ∷ z ∷ rest) h e = absurd (omega arith)
-
-cut-data : (xs : List ℕ) → 3 ≤ length xs → ltb 1 (get_or xs 1 0) ≡ false → length xs - 3 < get_or xs 2 0 → records_in xs ≡ none false
-unfolding records_after
-cut-data [] h e l = absurd (omega arith)
-cut-data (x ∷ []) h e l = absurd (omega arith)
-cut-data (x ∷ y ∷ []) h e l = absurd (omega arith)
-cut-data (x ∷ y ∷ z ∷ rest) h e l = if-false _ _ _ e ∙ if-true _ _ _ (lt-ltb (length rest) z (omega arith))
-
-whole : (xs : List ℕ) → 3 ≤ length xs → ltb 1 (get_or xs 1 0) ≡ false → get_or xs 2 0 ≤ length xs - 3
-    → records_in xs ≡ one (transaction (get_or xs 0 0) (take (get_or xs 2 0) (drop 3 xs)) (eqb (get_or xs 1 0) 1)) (records_in (drop (get_or xs 2 0) (drop 3 xs)))
-unfolding records_after
-whole [] h e l = absurd (omega arith)
-whole (x ∷ []) h e l = absurd (omega arith)
-whole (x ∷ y ∷ []) h e l = absurd (omega arith)
-whole (x ∷ y ∷ z ∷ rest) h e l =
-    let inside : z ≤ length rest = omega arith in
-    if-false _ _ _ e ∙ (if-false _ _ _ (le-ltb _ _ inside) ∙ ap (one (transaction x (take z rest) (eqb y 1))) (after-skip z rest inside))
+records-by-front check [] = by-found (found_at check [] 0) (found-tells check [] 0)
+  where
+    by-found : (f : Result Record Stop) → Tells check [] 0 f → none false ≡ by_front check [] f
+    by-found _ (whole size w) = absurd (omega (arith, w.inside))
+    by-found _ (bad-link b) = absurd (omega (arith, b.is-there))
+    by-found _ (cut _) = refl
+records-by-front check (byte ∷ rest) = by-found (found_at check (byte ∷ rest) 0) (found-tells check (byte ∷ rest) 0)
+  where
+    by-found : (f : Result Record Stop) → Tells check (byte ∷ rest) 0 f → found_then (byte ∷ rest) f (records_after check (skipped_by f) rest) ≡ by_front check (byte ∷ rest) f
+    by-found _ (whole size w) =
+        let r : Record = record_at check (byte ∷ rest) 0 size in
+        let next : suc (r.next - 1) ≡ r.next = omega arith in
+        ap (found_then (byte ∷ rest) (Ok r))
+        (after-skip check (r.next - 1) rest (omega (arith, w.inside)) ∙ ap (λ (n : ℕ). records_in check (drop n (byte ∷ rest))) next)
+    by-found _ (bad-link b) = refl
+    by-found _ (cut _) = refl
 
 -- the records from a place on, by what stands there
-abbrev pub by_found : List ℕ → Result Record Stop → Records
-by_found bytes (Err stop.Cut) = none false
-by_found bytes (Err stop.BadLink) = none true
-by_found bytes (Ok r) = one (transaction r.command (take (r.end - r.start) (drop r.start bytes)) r.link_up) (records_in (drop r.end bytes))
+abbrev pub by_found : (check : Bool) → List ℕ → (at : ℕ) → Result Record Stop → Records
+by_found check bytes at (Err stop.Cut) = none false
+by_found check bytes at (Err stop.BadLink) = none true
+by_found check bytes at (Ok r) =
+    let later : Records = records_in check (drop r.next bytes) in
+    record { transactions = transaction_in bytes r ∷ later.transactions; used = r.next - at + later.used; bad_link = later.bad_link }
 
-pub records-by-found : (bytes : List ℕ) (at : ℕ) → records_in (drop at bytes) ≡ by_found bytes (found_at bytes at)
-unfolding found_at
-records-by-found bytes at =
-    if-cases P _ _ _ (λ past. too_few (drop at bytes) (omega (arith, left, ltb-true)))
-    (λ _. if-cases P _ _ _ (λ few. too_few (drop at bytes) (omega (arith, left, ltb-true)))
-    (λ two. if-cases P _ _ _ (λ up. bad-link (drop at bytes) (omega (arith, left, ltb-false)) (link true up))
-    (λ low. if-cases P _ _ _ (λ few. no_size (drop at bytes) (omega (arith, left, ltb-true)) (link false low))
-    (λ three. if-cases P _ _ _ (λ long. cut-data (drop at bytes) (omega (arith, left, ltb-false)) (link false low) (omega (arith, left, size, ltb-true)))
-    (λ fits.
-    whole (drop at bytes) (omega (arith, left, ltb-false)) (link false low) (omega (arith, left, size, ltb-false))
-    ∙ simp (get_or-drop, drop-drop, add-zero, cancel))))))
+pub records-by-found : (check : Bool) (bytes : List ℕ) (at : ℕ) → records_in check (drop at bytes) ≡ by_found check bytes at (found_at check bytes at)
+records-by-found check bytes at =
+    records-by-front check (drop at bytes) ∙ (by-placed (found_at check (drop at bytes) 0) ∙ ap (by_found check bytes at) (found-placed check bytes at))
   where
-    cancel : at + 3 + get_or bytes (at + 2) 0 - (at + 3) ≡ get_or bytes (at + 2) 0
-    cancel = omega arith
-
-    P : Result Record Stop → Type 0
-    P e = records_in (drop at bytes) ≡ by_found bytes e
-
-    left : length (drop at bytes) ≡ length bytes - at
-    left = length-drop at bytes
-
-    size : get_or (drop at bytes) 2 0 ≡ get_or bytes (at + 2) 0
-    size = get_or-drop at bytes 2 0
-
-    link : (t : Bool) → ltb 1 (get_or bytes (at + 1) 0) ≡ t → ltb 1 (get_or (drop at bytes) 1 0) ≡ t
-    link t e = ap (λ (n : ℕ). ltb 1 n) (get_or-drop at bytes 1 0) ∙ e
+    by-placed : (f : Result Record Stop) → by_front check (drop at bytes) f ≡ by_found check bytes at (placed_if at f)
+    by-placed (Ok r) =
+        let size : at + r.end - (at + r.start) ≡ r.end - r.start = omega arith in
+        let used : at + r.next - at ≡ r.next = omega arith in
+        rw (size, used, ← drop-drop r.start at bytes, ← drop-drop r.next at bytes) refl
+    by-placed (Err stop.Cut) = refl
+    by-placed (Err stop.BadLink) = refl
 
 -- where the parts of a whole record lie
-pub record WholeAt (bytes : List ℕ) (at start end : ℕ) : Type 0 where
-  pub starts : start ≡ at + 3
+pub record WholeAt (bytes : List ℕ) (at start end next : ℕ) : Type 0 where
+  pub from : at < start
   pub forward : start ≤ end
-  pub inside : end ≤ length bytes
+  pub before-next : end ≤ next
+  pub inside : next ≤ length bytes
 
-pub whole-at : (bytes : List ℕ) (at : ℕ) → IfOk (found_at bytes at) (λ r. WholeAt bytes at r.start r.end)
-unfolding found_at
-whole-at bytes at =
-    if-cases P _ _ _ (λ _. tt)
-    (λ _. if-cases P _ _ _ (λ _. tt)
-    (λ _. if-cases P _ _ _ (λ _. tt)
-    (λ _. if-cases P _ _ _ (λ _. tt)
-    (λ three. if-cases P _ _ _ (λ _. tt)
-    (λ fits. record { starts = refl; forward = omega arith; inside = omega (arith, ltb-false) })))))
+pub whole-at : (check : Bool) (bytes : List ℕ) (at : ℕ) → IfOk (found_at check bytes at) (λ r. WholeAt bytes at r.start r.end r.next)
+whole-at check bytes at = by-found (found_at check bytes at) (found-tells check bytes at)
   where
-    P : Result Record Stop → Type 0
-    P found = IfOk found (λ r. WholeAt bytes at r.start r.end)
+    by-found : (f : Result Record Stop) → Tells check bytes at f → IfOk f (λ r. WholeAt bytes at r.start r.end r.next)
+    by-found _ (whole size w) = record { from = omega arith; forward = omega arith; before-next = omega arith; inside = omega (arith, w.inside) }
+    by-found _ (bad-link b) = tt
+    by-found _ (cut _) = tt
 
 -- what is used is there, and more where a bad link byte comes next
 pub record Within (skipped : ℕ) (bytes : List ℕ) (records : Records) : Type 0 where
   pub within : skipped + records.used ≤ length bytes
   pub left : records.bad_link ≡ true → skipped + records.used < length bytes
 
-pub used-within : (skipped : ℕ) (bytes : List ℕ) → skipped ≤ length bytes → Within skipped bytes (records_after skipped bytes)
+pub used-within : (check : Bool) (skipped : ℕ) (bytes : List ℕ) → skipped ≤ length bytes → Within skipped bytes (records_after check skipped bytes)
 unfolding records_after
-used-within (suc skipped) [] h = absurd (not-suc-le-zero h)
-used-within (suc skipped) (byte ∷ rest) h =
-    let w : Within skipped rest (records_after skipped rest) = used-within skipped rest (le_of_suc-le-suc h) in
+used-within check (suc skipped) [] h = absurd (not-suc-le-zero h)
+used-within check (suc skipped) (byte ∷ rest) h =
+    let w : Within skipped rest (records_after check skipped rest) = used-within check skipped rest (le_of_suc-le-suc h) in
     record { within = omega arith; left = λ e. omega (arith, w.left e) }
-used-within zero [] h = record { within = omega arith; left = λ e. absurd (cc) }
-used-within zero (command ∷ []) h = record { within = omega arith; left = λ e. absurd (cc) }
-used-within zero (command ∷ link ∷ []) h = record { within = omega arith; left = λ _. omega arith }
-used-within zero (command ∷ link ∷ size ∷ rest) h =
-    if-cases P _ _ _ (λ _. record { within = omega arith; left = λ _. omega arith })
-    (λ _. if-cases P _ _ _ (λ _. record { within = omega arith; left = λ e. absurd (cc) })
-    (λ fits. whole-within (ltb-false _ _ fits) (used-within size rest (ltb-false _ _ fits))))
+used-within check zero [] h = record { within = omega arith; left = λ e. absurd (cc) }
+used-within check zero (byte ∷ rest) h = by-found (found_at check (byte ∷ rest) 0) (found-tells check (byte ∷ rest) 0) (used-within check (skipped_by (found_at check (byte ∷ rest) 0)) rest)
   where
-    P : Records → Type 0
-    P = Within zero (command ∷ link ∷ size ∷ rest)
-
-    whole-within : size ≤ length rest → Within size rest (records_after size rest) → P (one (transaction command (take size rest) (eqb link 1)) (records_after size rest))
-    whole-within inside w =
-        let long : length (take size rest) ≡ size = length-take-le size rest inside in
-        record { within = omega arith; left = λ e. omega (arith, w.left e) }
+    by-found : (f : Result Record Stop) → Tells check (byte ∷ rest) 0 f
+        → (skipped_by f ≤ length rest → Within (skipped_by f) rest (records_after check (skipped_by f) rest))
+        → Within zero (byte ∷ rest) (found_then (byte ∷ rest) f (records_after check (skipped_by f) rest))
+    by-found _ (whole size w) later =
+        let l : _ = later (omega (arith, w.inside)) in
+        record { within = omega (arith, l.within); left = λ e. omega (arith, l.left e) }
+    by-found _ (bad-link b) later = record { within = omega arith; left = λ _. omega (arith, b.is-there) }
+    by-found _ (cut _) later = record { within = omega arith; left = λ e. absurd (cc) }

@@ -1,2 +1,3 @@
+pub mod Properties
 pub mod Records
 pub mod Transaction

@@ -1,12 +1,23 @@
 // A transaction, as a caller hands it in.
 use std::marker::Model;
 
-// A command, the data that came with it, and the link at that moment.
+// All of a transaction but its data.
+#[repr(C)]
+#[derive(Clone, Copy)]
+pub struct Attributes {
+    // The address byte and the code, which are read where the check is on, and not where it is off.
+    pub address: u8,
+    pub command: u8,
+    pub code: u8,
+    // The link at that moment.
+    pub link_up: bool,
+}
+
+// A command with its data, the code over them, and the link at that moment.
 #[derive(Drop)]
 pub struct Transaction<'a> {
-    pub command: u8,
+    pub attributes: Attributes,
     pub bytes: &'a [u8],
-    pub link_up: bool,
 }
 
 impl<'a> Model for Transaction<'a> {
@@ -14,5 +25,5 @@ impl<'a> Model for Transaction<'a> {
 
     ghost Value = { Transaction };
 
-    ghost view = { λ t. transaction t.command t.bytes.now t.link_up };
+    ghost view = { λ t. transaction t.attributes t.bytes.now };
 }

@@ -10,6 +10,7 @@ use lib.ListN.{length, get_or}
 use borrow.Author.Count.{below_none, below_more}
 use borrow.Author.Tests.{ltb-true, ltb-false, eqb-true, eqb-false, not-true, not-false}
 use Rattle.std.specs.Prelude.{Result, Ok, Err, IsOk}
+use Rattle.prelude.specs.Parts.{AreBytes}
 use Rattle.prelude.specs.Choice.{when◌then◌else◌}
 use Rattle.prelude.proofs.Tests.{if-cases}
 use Rattle.status.specs.declared.Fields.{Fields}
@@ -17,7 +18,7 @@ use Rattle.status.specs.declared.judge.Field.{Field}
 use Rattle.status.specs.declared.judge.Field.TheVariants.{BlockSize, Length, PacketStatus, MngReserved, DecisionIndex, VlanIndex}
 use Rattle.status.specs.Judged.{field_number, number_of, bad_field_number, max_length, packet_status, max_decision_index, max_vlan_index, bad_length, bad_index, judged}
 use Rattle.status.specs.Block.{told, block, word_at, mng_reserved, fields_at, judged_block, parsed, written}
-use Rattle.status.specs.Properties.{AreBytes, fields_in, GoodIndex, GoodToWrite, GoodToRead, in_order, field_at, TellsFirstBad, FirstBadTold}
+use Rattle.status.specs.Properties.{fields_in, GoodIndex, GoodToWrite, GoodToRead, in_order, field_at, TellsFirstBad, FirstBadTold}
 
 -- the statement, of an answer
 abbrev Tells : (Field → Type 0) → {A : Type 0} → Result A Field → Type 0

@@ -9,13 +9,14 @@ use lib.Dec.{eqb}
 use lib.ListN.{get_or, replicate}
 use Rattle.std.specs.Prelude.{Result, Ok, Err, IsOk}
 use Rattle.std.specs.Result.{ResultUnwrapsOrElse}
+use Rattle.prelude.specs.Parts.{AreBytes}
 use Rattle.prelude.specs.Choice.{when◌then◌else◌}
 use Rattle.prelude.proofs.Lists.{all-elements}
 use Rattle.status.specs.declared.Fields.{Fields}
 use Rattle.status.specs.declared.judge.Field.{Field}
 use Rattle.status.specs.declared.judge.Field.TheVariants.{BlockSize, Length, PacketStatus, MngReserved, DecisionIndex, VlanIndex}
 use Rattle.status.specs.Block.{match_bit, mng_status, block, told, if_done, written, block_back, word_at, no_fields, parsed, fields_back}
-use Rattle.status.specs.Properties.{HasTag, AreBytes, RoundTrip, fields_in, ComesBack, GoodToWrite, GoodToRead}
+use Rattle.status.specs.Properties.{HasTag, RoundTrip, fields_in, ComesBack, GoodToWrite, GoodToRead}
 use Rattle.status.proofs.FirstBad.{words-are-bytes, first-bad-told, good-where-done, done-where-good}
 
 -- what is told, and what comes back with it

@@ -1,5 +1,6 @@
 -- Exactly what the writer writes is read, and read as what was written; and every answer, by a second description of fields and block that uses none of the rules (manual 6).
 use Rattle.std.specs.Prelude.{ℕ, zero, suc, ◌+◌, ◌*◌, ◌/◌, ◌%◌, ◌^◌, ◌<◌, ◌≤◌, Bool, false, List, [], ◌∷◌, ◌↔◌, ◌≡◌, Ok, Err, IsOk, eqb, length, get_or, replicate, map}
+use Rattle.prelude.specs.Parts.{AreBytes}
 use Rattle.status.specs.declared.Fields.{Fields}
 use Rattle.status.specs.declared.judge.Field.{Field}
 use Rattle.status.specs.declared.judge.Field.TheVariants.{BlockSize, Length, PacketStatus, MngReserved, DecisionIndex, VlanIndex}
@@ -9,10 +10,6 @@ use Rattle.status.specs.Block.{written, block_back, parsed, fields_back}
 -- a VLAN tag is any two bytes (manual 6.4)
 abbrev pub HasTag : Fields → Type 0
 HasTag f = f.vlan < 2 ^ 16
-
--- what a reader is handed are bytes (manual 6.1)
-abbrev pub AreBytes : List ℕ → Type 0
-AreBytes b = (i : ℕ) → get_or b i 0 < 256
 
 -- what is written is read back, and nothing else is read (manual 6.6)
 pub record RoundTrip : Type 0 where

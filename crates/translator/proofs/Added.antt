@@ -14,11 +14,11 @@ use Rattle.prelude.specs.Choice.{when◌then◌else◌}
 use Rattle.prelude.proofs.Lists.{elements, all-elements}
 use Rattle.prelude.proofs.Tests.{if-true, if-false, if-cases, if-first, if-second}
 use Rattle.std.proofs.lemmas.Bool.{cases_eq}
-use Rattle.state.specs.Account.{row_count, columns, aborted, badlength, packets_in, fragments_in, bytes_in, all_fragments}
+use Rattle.state.specs.Account.{row_count, columns, aborted, badlength, badcheck, packets_in, fragments_in, bytes_in, all_fragments}
 use Rattle.state.specs.Sound.{row_sound, rows_sound, singles_sound}
 use Rattle.state.specs.State.{max_maximum}
 use Rattle.state.proofs.AllRows.{row_sound_at, row-sound-at}
-use Rattle.state.proofs.Rows.{nine}
+use Rattle.state.proofs.Rows.{each-row}
 use Rattle.translator.specs.Counting.{add_to, left_open}
 use Rattle.translator.specs.Properties.{SameRow, Adds}
 
@@ -62,6 +62,8 @@ pub record Fair (row packets fragments bytes : ℕ) : Type 0 where
   pub aborted-has-no-packets : aborted ≡ row → packets ≡ 0
   pub badlength-has-no-packets : badlength ≡ row → packets ≡ 0
   pub badlength-has-no-bytes : badlength ≡ row → bytes ≡ 0
+  pub badcheck-has-no-packets : badcheck ≡ row → packets ≡ 0
+  pub badcheck-has-no-bytes : badcheck ≡ row → bytes ≡ 0
 
 row-sound-more : (p₀ f₀ b₀ p f b : ℕ) → row_sound p₀ f₀ b₀ ≡ true → p ≤ f → b ≤ max_maximum * f → row_sound (p₀ + p) (f₀ + f) (b₀ + b) ≡ true
 unfolding row_sound
@@ -124,9 +126,9 @@ module _ (grid : List ℕ) (row packets fragments bytes : ℕ) where
     added-fragments : row < row_count → all_fragments row_count added ≡ all_fragments row_count grid + fragments
     unfolding add_to all_fragments when◌then◌else◌
     added-fragments l =
-        subst (λ (g : List ℕ). all_fragments row_count (add_to row packets fragments bytes g) ≡ all_fragments row_count g + fragments) (all-elements 27 grid formed)
-        (nine (λ (r : ℕ). all_fragments row_count (add_to r packets fragments bytes (elements 27 0 grid)) ≡ all_fragments row_count (elements 27 0 grid) + fragments)
-        (omega arith) (omega arith) (omega arith) (omega arith) (omega arith) (omega arith) (omega arith) (omega arith) (omega arith) row l)
+        subst (λ (g : List ℕ). all_fragments row_count (add_to row packets fragments bytes g) ≡ all_fragments row_count g + fragments) (all-elements (row_count * columns) grid formed)
+        (each-row (λ (r : ℕ). all_fragments row_count (add_to r packets fragments bytes (elements (row_count * columns) 0 grid)) ≡ all_fragments row_count (elements (row_count * columns) 0 grid) + fragments)
+        (omega arith) (omega arith) (omega arith) (omega arith) (omega arith) (omega arith) (omega arith) (omega arith) (omega arith) (omega arith) row l)
 
     -- the fragments that are added, where the row is one, or else are left open
     pub fragments-stand : all_fragments row_count added + left_open row fragments ≡ all_fragments row_count grid + fragments
@@ -158,11 +160,15 @@ module _ (grid : List ℕ) (row packets fragments bytes : ℕ) where
     added-sound =
         let h : _ = g.singles-are-sound in
         let z : _ = if-second _ _ h in
+        let y : _ = if-second _ _ z in
+        let x : _ = if-second _ _ y in
         record {
           formed = added-formed g.formed;
           rows-are-sound = rows-sound-if row_count added added-row-sound;
           singles-are-sound =
               if-true _ _ _ (eq-eqb _ _ (no-packets-stay aborted (omega arith) (λ m. (fair m).aborted-has-no-packets) (eqb-true _ _ (if-first _ _ h))))
               ∙ (if-true _ _ _ (eq-eqb _ _ (no-packets-stay badlength (omega arith) (λ m. (fair m).badlength-has-no-packets) (eqb-true _ _ (if-first _ _ z))))
-              ∙ eq-eqb _ _ (no-bytes-stay badlength (omega arith) (λ m. (fair m).badlength-has-no-bytes) (eqb-true _ _ (if-second _ _ z))));
+              ∙ (if-true _ _ _ (eq-eqb _ _ (no-bytes-stay badlength (omega arith) (λ m. (fair m).badlength-has-no-bytes) (eqb-true _ _ (if-first _ _ y))))
+              ∙ (if-true _ _ _ (eq-eqb _ _ (no-packets-stay badcheck (omega arith) (λ m. (fair m).badcheck-has-no-packets) (eqb-true _ _ (if-first _ _ x))))
+              ∙ eq-eqb _ _ (no-bytes-stay badcheck (omega arith) (λ m. (fair m).badcheck-has-no-bytes) (eqb-true _ _ (if-second _ _ x))))));
         }

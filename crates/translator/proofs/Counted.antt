@@ -25,7 +25,7 @@ use Rattle.translator.specs.declared.tally.Tally.{Tally}
 use Rattle.translator.specs.declared.judged.Judged.{Judged}
 use Rattle.translator.specs.Command.{commands, class_in}
 use Rattle.translator.specs.Counting.{add_to, outcome_tally, left_open, tally_of, grid_after, beside_after, counted}
-use Rattle.translator.specs.Properties.{fragment_closes, closes_in, closed_row, SameRow, Adds, packet_of, no_packet, open_packet, packet_left}
+use Rattle.translator.specs.Properties.{fragment_closes, closes_in, closes, closed_row, SameRow, Adds, packet_of, no_packet, open_packet, packet_left}
 use Rattle.translator.proofs.Comes.{ends_at}
 use Rattle.translator.proofs.Added.{GridSound, added-formed, added-elsewhere, added-here, fragments-stand, added-sound}
 use Rattle.translator.proofs.Tallies.{Open, SoundTally, Tallies, tallied}
@@ -61,6 +61,10 @@ unfolding closes_in
 closes_in-closes (class.Fragment first last) command o = fragment-closes-in first o
 closes_in-closes class.Enable command o = λ _. omega arith
 closes_in-closes class.Unknown command o = if-cases (λ (row : ℕ). row < row_count → Closes row) _ _ _ (λ _ _. omega arith) (λ _ l. absurd (omega arith))
+
+closes-closes : (command : ℕ) (o : Outcome) → closes command o < row_count → Closes (closes command o)
+closes-closes command o =
+    if-cases (λ (row : ℕ). row < row_count → Closes row) _ _ _ (λ _ _. omega arith) (λ _. closes_in-closes (class_in commands command) command o)
 
 -- one ends where one is open
 ends-closes : (row f : ℕ) → (row < row_count → Closes row) → ends_at row f < row_count → Closes (ends_at row f) × (1 ≤ f)
@@ -160,6 +164,7 @@ module _ (s : State) (ends : ℕ) (t : Tally) (formed : Formed s.account) (is-so
         least = is-sound.least;
         most = is-sound.most;
         bytes-within = tallies.leaves.within;
+        check-allowed = is-sound.check-allowed;
       })
 
 -- a transaction that was counted
@@ -200,7 +205,7 @@ module _ (s : State) (store settings : List ℕ) (t : Transaction) (d : After Ju
   closed-apart : ends < row_count → Closes ends × (1 ≤ before.beside.open_fragments)
   closed-apart =
       subst (λ (row : ℕ). row < row_count → Closes row × (1 ≤ before.beside.open_fragments)) (sym w.ends-are)
-      (ends-closes (closes_in (class_in commands t.command) t.command o) _ (closes_in-closes (class_in commands t.command) t.command o))
+      (ends-closes (closes t.command o) _ (closes-closes t.command o))
 
   pub own-not-ends : ends < row_count → ends ≡ row_number tally.row → ⊥
   own-not-ends l e = let c : Closes ends = (closed-apart l).0 in tallies.sound.apart ends c.from c.to e

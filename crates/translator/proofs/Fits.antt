@@ -51,6 +51,7 @@ module _ (f b size : ℕ) (few : f ≤ limit) (much : b ≤ most) (small : size 
   outcome_fits outcome.NoRoom = search rules
   outcome_fits outcome.NotSound = search rules
   outcome_fits outcome.Full = search rules
+  outcome_fits outcome.BadCheck = search rules
 
 pub tally-fits : (j : Judged) (b : Beside) → BesideFits b → j.bytes ≤ max_maximum → TallyFits (tally_of j b)
 tally-fits j b fits small =

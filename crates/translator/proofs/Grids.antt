@@ -12,7 +12,7 @@ use Rattle.prelude.proofs.Lists.{elements, all-elements}
 use Rattle.state.specs.declared.Beside.{Beside}
 use Rattle.state.specs.Account.{row_count, columns, row_number}
 use Rattle.state.specs.Grid.{rows_of, flat_of}
-use Rattle.state.proofs.Rows.{nine, flat_rows}
+use Rattle.state.proofs.Rows.{each-row, flat_rows}
 use Rattle.translator.specs.declared.tally.Tally.{Tally}
 use Rattle.translator.specs.Counting.{add_to, grid_after}
 use Rattle.translator.specs.Rows.{in_rows, rows_after}
@@ -24,7 +24,7 @@ module _ (grid : List ℕ) (row packets fragments bytes : ℕ) (formed : length 
   unfolding in_rows add_to when◌then◌else◌
   at_row =
       subst (λ (g : List ℕ). row < row_count → in_rows (rows_of grid) row packets fragments bytes ≡ rows_of (add_to row packets fragments bytes g)) (all-elements (row_count * columns) grid formed)
-      (nine (λ (r : ℕ). in_rows (rows_of grid) r packets fragments bytes ≡ rows_of (add_to r packets fragments bytes (elements (row_count * columns) 0 grid))) refl refl refl refl refl refl refl refl refl row)
+      (each-row (λ (r : ℕ). in_rows (rows_of grid) r packets fragments bytes ≡ rows_of (add_to r packets fragments bytes (elements (row_count * columns) 0 grid))) refl refl refl refl refl refl refl refl refl refl row)
 
   pub rows-added : in_rows (rows_of grid) row packets fragments bytes ≡ rows_of (add_to row packets fragments bytes grid)
   unfolding in_rows add_to when◌then◌else◌

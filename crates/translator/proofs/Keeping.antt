@@ -92,6 +92,7 @@ module _ (at : ℕ) (bytes store : List ℕ) (room : max_packet ≤ length store
   store_kept outcome.NoRoom = nothing_changes at (length bytes) _ store
   store_kept outcome.NotSound = nothing_changes at (length bytes) _ store
   store_kept outcome.Full = nothing_changes at (length bytes) _ store
+  store_kept outcome.BadCheck = nothing_changes at (length bytes) _ store
 
 counted-keeps : (s : State) (store settings : List ℕ) (t : Transaction) (d : After Judged) → Ready s → ComesOn s store settings t d
     → Keeps (packet_left s.account t.command d.result.outcome).bytes (length t.bytes) d.result.outcome store d.store
@@ -146,6 +147,7 @@ module _ (at : ℕ) (bytes store : List ℕ) (room : max_packet ≤ length store
   fragment-stands outcome.NoRoom = λ joined. absurd (true≢false (sym joined))
   fragment-stands outcome.NotSound = λ joined. absurd (true≢false (sym joined))
   fragment-stands outcome.Full = λ joined. absurd (true≢false (sym joined))
+  fragment-stands outcome.BadCheck = λ joined. absurd (true≢false (sym joined))
 
 joins-below : (n : ℕ) → joins n ≡ true → 12 ≤ n → ⊥
 joins-below n =

@@ -12,6 +12,7 @@ pub mod Readied
 pub mod Room
 pub mod Taken
 pub mod Tallies
+pub mod Unique
+pub mod Unread
 pub mod Usable
 pub mod Ways
-pub mod Unique

@@ -82,6 +82,7 @@ every-frame =
       refused = λ _ few. absurd (omega arith);
       not_refused = λ _. refl;
       maximum = refl;
+      check = refl;
     })
     (λ s store settings t d r w.
     let m : ℕ = s.account.beside.refused in
@@ -95,6 +96,7 @@ every-frame =
       refused = λ from to. ap (λ (k : ℕ). m + k) (c.refused from to);
       not_refused = λ e. omega (arith, ⊎_elim c.few-not-refused c.many-not-refused e);
       maximum = refl;
+      check = refl;
     })
 
 pub every-closing : EveryClosing
@@ -138,10 +140,12 @@ module _ (s : State) (store settings : List ℕ) (t : Transaction) (d : After Ju
         last_counts_what_is_left = λ h. let (from, to, n, m) = completes-tells _ h in own-adds _ _ _ _ own (c.completed from to n m).1;
         aborted_counts_alone = λ e. own-adds _ _ _ _ (c.aborts e).0 (c.aborts e).1;
         bad_length_counts_alone = λ e. own-adds _ _ _ _ (c.breaks e).0 (c.breaks e).1;
+        bad_check_counts_alone = λ e. own-adds _ _ _ _ (c.fails-check e).0 (c.fails-check e).1;
         others_leave_what_is_left = λ n h. opens _ _ (c.others n (completes-not _ 1 h refl) (completes-not _ 4 h refl) (completes-not _ 5 h refl) (completes-not _ 6 h refl));
       })
 
 pub every-leaving : EveryLeaving
+unfolding is_counted when◌then◌else◌
 every-leaving =
     every (λ s store settings t left.
     Leaves (packet_left s.account t.command left.result.outcome) (length t.bytes) s.account left.result.outcome left.result.state.account)
@@ -153,6 +157,7 @@ every-leaving =
       last_counts_what_is_left = λ h. absurd (omega (arith, completes-tells (number_of o) h));
       aborted_counts_alone = λ e. absurd (omega arith);
       bad_length_counts_alone = λ e. absurd (omega arith);
+      bad_check_counts_alone = λ e. absurd (true≢false (ap is_counted (sym e) ∙ n));
       others_leave_what_is_left = λ _ _. sym (leaves_all s.account t.command o n);
     })
     counted-leaves

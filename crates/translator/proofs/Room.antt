@@ -31,7 +31,7 @@ own_room r t fits adds l =
 added-within : (r : List (List ℕ)) (row packets fragments bytes other n m : ℕ) → length r ≡ row_count → (row < row_count → Within n (get_or r row [])) → Within n (get_or r other []) → packets ≤ m → fragments ≤ m → bytes ≤ m
     → Within (n + m) (get_or (in_rows r row packets fragments bytes) other [])
 unfolding in_rows
-added-within r row packets fragments bytes other n m nine here there p f b =
+added-within r row packets fragments bytes other n m rows here there p f b =
     if-cases (λ (s : List (List ℕ)). Within (n + m) (get_or s other [])) (ltb row row_count) _ _ (λ l. at_row (ltb-true _ _ l) (cases_eq other row)) (λ _. (omega arith, omega arith, omega arith))
   where
     more : List ℕ

@@ -5,7 +5,7 @@ use mathlib.Core.Bool.{true, true≢false}
 use mathlib.Core.Path.{◌≡◌, refl, sym}
 use native.Mathlib.Omega.{arith}
 use Rattle.prelude.specs.Choice.{when◌then◌else◌}
-use Rattle.state.specs.Account.{row_count, superseded, broken, aborted, badlength, row_number}
+use Rattle.state.specs.Account.{row_count, superseded, broken, aborted, badlength, badcheck, row_number}
 use Rattle.state.specs.State.{max_maximum}
 use Rattle.outcome.specs.declared.Cause.TheVariants as cause
 use Rattle.outcome.specs.declared.Outcome.{Outcome}
@@ -55,6 +55,7 @@ pub record FragmentTally (n f b size : ℕ) (t : Tally) : Type 0 where
   pub completed : 1 ≤ n → n ≤ 6 → (n ≡ 2 → ⊥) → (n ≡ 3 → ⊥) → Opens 0 0 t × InRow 1 (f + 1) (b + size) t
   pub aborts : n ≡ 2 → (row_number t.row ≡ aborted) × InRow 0 1 size t
   pub breaks : n ≡ 3 → (row_number t.row ≡ badlength) × InRow 0 1 0 t
+  pub fails-check : n ≡ 17 → (row_number t.row ≡ badcheck) × InRow 0 1 0 t
   pub others : (n ≡ 0 → ⊥) → (n ≡ 1 → ⊥) → (n ≡ 4 → ⊥) → (n ≡ 5 → ⊥) → (n ≡ 6 → ⊥) → Opens f b t
 
 pub record Tallies (o : Outcome) (maximum f b size : ℕ) (t : Tally) : Type 0 where
@@ -80,3 +81,4 @@ module _ (maximum f b size : ℕ) (most : maximum ≤ max_maximum) (left : Open 
   tallied outcome.NoRoom c few some = absurd (true≢false (sym c))
   tallied outcome.NotSound c few some = absurd (true≢false (sym c))
   tallied outcome.Full c few some = absurd (true≢false (sym c))
+  tallied outcome.BadCheck c few some = record { own = refl; sound = omega arith; commands = omega arith; fragments = omega arith }

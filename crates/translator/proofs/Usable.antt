@@ -6,6 +6,7 @@ use mathlib.Core.Path.{◌≡◌, refl, sym, ap, ◌∙◌}
 use native.Mathlib.Omega.{arith}
 use Rattle.std.specs.Prelude.{Ok, Err}
 use Rattle.prelude.specs.After.{After}
+use Rattle.prelude.proofs.Tests.{if-cases}
 use Rattle.record.specs.Transaction.{Transaction}
 use Rattle.state.specs.declared.State.{State}
 use Rattle.state.specs.Account.{Formed}
@@ -18,6 +19,15 @@ pub use Rattle.translator.proofs.Ways.{Usable, ready-usable, usable-ready}
 module _ (s : State) (store settings : List ℕ) (t : Transaction) where
   abbrev left : After Transacted
   left = transacted s store settings t
+
+  -- no transaction turns the check on or off
+  pub check-stays : left.result.state.check ≡ s.check
+  unfolding transacted by_readiness
+  check-stays = by-readiness (readiness_of s store settings)
+    where
+      by-readiness : (r : Readiness) → (by_readiness r s store settings t).result.state.check ≡ s.check
+      by-readiness (Err o) = refl
+      by-readiness (Ok tt) = if-cases (λ (x : After Transacted). x.result.state.check ≡ s.check) _ _ _ (λ _. refl) (λ _. refl)
 
   pub readiness-stays : Formed s.account → readiness_of left.result.state left.store left.settings ≡ readiness_of s store settings
   unfolding transacted by_readiness

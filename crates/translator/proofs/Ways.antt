@@ -1,21 +1,21 @@
 -- The two ways of a transaction: it is rejected, or it is counted.
 -- Assumes nothing.
 use Prim.Native.Nat.{ℕ, ◌≤◌, ◌<◌}
-use mathlib.Core.Bool.{Bool, true, false, true≢false}
+use mathlib.Core.Bool.{Bool, true, false, not, true≢false}
 use mathlib.Core.List.{List}
 use mathlib.Core.Logic.{◌⊎◌, inl, inr, ⊎_elim}
-use mathlib.Core.Path.{◌≡◌, refl, sym, ◌∙◌}
+use mathlib.Core.Path.{◌≡◌, refl, sym, ap, ◌∙◌}
 use native.Mathlib.Nat.{not-le_of_lt}
 use native.Mathlib.Omega.{arith}
 use lib.Arith.{lt_of_le-ne}
 use lib.ListN.{length}
-use borrow.Author.Tests.{eqb-true, eqb-false, ltb-true, ltb-false, le-ltb}
+use borrow.Author.Tests.{eqb-true, eqb-false, eq-eqb, ltb-true, ltb-false, le-ltb}
 use Rattle.std.specs.Prelude.{Ok, Err}
 use Rattle.prelude.specs.After.{After, after}
 use Rattle.prelude.specs.Choice.{when◌then◌else◌}
 use Rattle.prelude.proofs.Tests.{if-true, if-false, if-cases}
 use Rattle.packet.specs.Store.{max_packet}
-use Rattle.record.specs.Transaction.{Transaction}
+use Rattle.record.specs.Transaction.{Transaction, attributes}
 use Rattle.settings.specs.Layout as settings_layout
 use Rattle.settings.proofs.Sound as settings-sound
 use Rattle.state.specs.declared.State.{State}
@@ -27,10 +27,10 @@ use Rattle.outcome.specs.declared.Outcome.TheVariants as outcome
 use Rattle.outcome.specs.Outcome.{number_of, is_counted}
 use Rattle.translator.specs.declared.Transacted.{Transacted}
 use Rattle.translator.specs.declared.judged.Judged.{Judged}
-use Rattle.translator.specs.Command.{commands, class_in}
-use Rattle.translator.specs.Properties.{Every, closes_in, Orders, EveryOrder}
+use Rattle.translator.specs.Check.{passes_check}
+use Rattle.translator.specs.Properties.{Every, closes, Orders, EveryOrder}
 use Rattle.translator.specs.Transact.{Readiness, with, readiness_of, judged_on, applied, by_readiness, transacted}
-use Rattle.translator.proofs.Comes.{Comes, by-class-comes}
+use Rattle.translator.proofs.Comes.{Comes, tells_bad_check, judge-comes}
 
 -- a state and buffers that can be used
 pub record Usable (s : State) (store settings : List ℕ) : Type 0 where
@@ -91,7 +91,7 @@ pub record Ready (s : State) : Type 0 where
 -- what a transaction came to on a state
 abbrev pub ComesOn : State → List ℕ → List ℕ → Transaction → After Judged → Type 0
 ComesOn s store settings t d =
-    Comes s.maximum s.account.beside.open_fragments s.account.beside.open_bytes (closes_in (class_in commands t.command) t.command) t.bytes store settings d
+    Comes s.maximum s.account.beside.open_fragments s.account.beside.open_bytes (closes t.command) (not (passes_check s.check t)) t.bytes store settings d
 
 rejected-not-counted : (s : State) (store settings : List ℕ) (o : Outcome) → Rejects s store settings o → is_counted (number_of o) ≡ false
 unfolding is_counted when◌then◌else◌
@@ -102,8 +102,8 @@ rejected-not-counted s store settings _ (full u h) = refl
 pub usable-comes : (s : State) (store settings : List ℕ) (t : Transaction) → Usable s store settings → ComesOn s store settings t (judged_on s store settings t)
 usable-comes s store settings t u =
     let a : AccountSound s.account = account-sound-tells s.account (sound-tells s u.state_is_sound).account-is-sound in
-    by-class-comes s.maximum s.account.beside.open_fragments s.account.beside.open_bytes (λ none. omega arith) t.bytes store settings u.store-room u.settings_are_sound
-    (class_in commands t.command) t.command t.link_up
+    judge-comes s.maximum s.account.beside.open_fragments s.account.beside.open_bytes (λ none. omega arith) t.bytes store settings u.store-room u.settings_are_sound
+    s.check (attributes t.address t.command t.code t.link_up)
 
 -- what holds of a transaction that is rejected and of one that is counted holds of every one
 pub every : (P : State → List ℕ → List ℕ → Transaction → After Transacted → Type 0)
@@ -129,35 +129,44 @@ module _ (s : State) (store settings : List ℕ) where
   short-not-sound : settings_layout.sound settings ≡ true → length settings < settings_layout.size → ⊥
   short-not-sound h l = not-le_of_lt l (settings-sound.sound-tells settings h).has_room
 
-  rejected-in-order : (o : Outcome) → Rejects s store settings o → Orders s store settings (number_of o)
-  rejected-in-order _ (too_short short) = record {
+  rejected-in-order : (t : Transaction) (o : Outcome) → Rejects s store settings o → Orders s store settings t (number_of o)
+  rejected-in-order t _ (too_short short) = record {
     too_short = λ _. refl;
     not_sound = λ room settings-room _. absurd (⊎_elim (λ l. not-le_of_lt l room) (λ l. not-le_of_lt l settings-room) short);
     full = λ room _ h _. absurd (⊎_elim (λ l. not-le_of_lt l room) (short-not-sound h) short);
     counted = λ room _ h _. absurd (⊎_elim (λ l. not-le_of_lt l room) (short-not-sound h) short);
+    wrong_code = λ room _ h _ _. absurd (⊎_elim (λ l. not-le_of_lt l room) (short-not-sound h) short);
+    right_code = λ _ e. omega (arith, e);
   }
-  rejected-in-order _ (not_sound room settings-room n) = record {
+  rejected-in-order t _ (not_sound room settings-room n) = record {
     too_short = λ short. absurd (⊎_elim (λ l. not-le_of_lt l room) (λ l. not-le_of_lt l settings-room) short);
     not_sound = λ _ _ _. refl;
     full = λ _ h k _. absurd (⊎_elim (holds-or-fails _ h) (holds-or-fails _ k) n);
     counted = λ _ h k _. absurd (⊎_elim (holds-or-fails _ h) (holds-or-fails _ k) n);
+    wrong_code = λ _ h k _ _. absurd (⊎_elim (holds-or-fails _ h) (holds-or-fails _ k) n);
+    right_code = λ _ e. omega (arith, e);
   }
-  rejected-in-order _ (full u e) = record {
+  rejected-in-order t _ (full u e) = record {
     too_short = λ short. absurd (⊎_elim (λ l. not-le_of_lt l u.store-room) (λ l. not-le_of_lt l u.settings-room) short);
     not_sound = λ _ _ n. absurd (⊎_elim (holds-or-fails _ u.state_is_sound) (holds-or-fails _ u.settings_are_sound) n);
     full = λ _ _ _ _. refl;
     counted = λ _ _ _ n. absurd (n e);
+    wrong_code = λ _ _ _ n _. absurd (n e);
+    right_code = λ _ q. omega (arith, q);
   }
 
-  counted-in-order : (answer : ℕ) → Usable s store settings → (s.account.beside.total ≡ limit → ⊥) → is_counted answer ≡ true → Orders s store settings answer
-  counted-in-order answer u n c = record {
+  counted-in-order : (t : Transaction) (answer : ℕ) → Usable s store settings → (s.account.beside.total ≡ limit → ⊥) → is_counted answer ≡ true → tells_bad_check answer ≡ not (passes_check s.check t) → Orders s store settings t answer
+  counted-in-order t answer u n c w = record {
     too_short = λ short. absurd (⊎_elim (λ l. not-le_of_lt l u.store-room) (λ l. not-le_of_lt l u.settings-room) short);
     not_sound = λ _ _ n. absurd (⊎_elim (holds-or-fails _ u.state_is_sound) (holds-or-fails _ u.settings_are_sound) n);
     full = λ _ _ _ e. absurd (n e);
     counted = λ _ _ _ _. c;
+    wrong_code = λ _ _ _ _ wrong. eqb-true answer 17 (w ∙ ap not wrong);
+    right_code = λ right q. holds-or-fails _ (eq-eqb answer 17 q) (w ∙ ap not right);
   }
 
 pub every-order : EveryOrder
 every-order s store settings t formed =
-    by_way s store settings t (λ (left : After Transacted). Orders s store settings (number_of left.result.outcome))
-    (rejected-in-order s store settings) (λ u n. counted-in-order s store settings _ u n (usable-comes s store settings t u).is-counted)
+    by_way s store settings t (λ (left : After Transacted). Orders s store settings t (number_of left.result.outcome))
+    (rejected-in-order s store settings t)
+    (λ u n. counted-in-order s store settings t _ u n (usable-comes s store settings t u).is-counted (usable-comes s store settings t u).wrong-code)

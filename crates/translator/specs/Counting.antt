@@ -51,7 +51,7 @@ cause_tally cause.Over f b size = whole row.Over f b size
 cause_tally cause.Short f b size = whole row.Short f b size
 cause_tally cause.LinkDown f b size = whole row.LinkDown f b size
 
--- what each outcome adds to its line, behind the `f` fragments and `b` bytes that are left open. The last three are never counted, and `Refused` for settings that are too short or not sound never comes: that is answered before, as `NoRoom` or `NotSound` (manual 2.2, 8.3)
+-- what each outcome adds to its line, behind the `f` fragments and `b` bytes that are left open. Those answered 12 to 14 are never counted, and `Refused` for settings that are too short or not sound never comes: that is answered before, as `NoRoom` or `NotSound` (manual 2.2, 8.3)
 abbrev pub outcome_tally : Outcome → (f b size : ℕ) → Tally
 outcome_tally outcome.Joined f b size = tally None 0 0 0 (f + 1) (b + size) 0 0
 outcome_tally (outcome.Sent n) f b size = whole row.Sent f b size
@@ -62,6 +62,7 @@ outcome_tally outcome.Taken f b size = tally None 0 0 0 f b 1 0
 outcome_tally outcome.NoRoom f b size = tally None 0 0 0 f b 0 0
 outcome_tally outcome.NotSound f b size = tally None 0 0 0 f b 0 0
 outcome_tally outcome.Full f b size = tally None 0 0 0 f b 0 0
+outcome_tally outcome.BadCheck f b size = alone row.BadCheck f b size
 
 -- what is left open of the packet: nothing, where it ends in a row (manual 8.4)
 unfoldable pub left_open : ℕ → ℕ → ℕ

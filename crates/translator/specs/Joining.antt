@@ -33,6 +33,7 @@ filled_if outcome.Taken total store = store
 filled_if outcome.NoRoom total store = store
 filled_if outcome.NotSound total store = store
 filled_if outcome.Full total store = store
+filled_if outcome.BadCheck total store = store
 
 -- what a Last comes to and leaves, once it is written (manual 3.6, 4.3)
 unfoldable pub completed : ℕ → Bool → List ℕ → Stored Outcome

@@ -1,9 +1,10 @@
--- What a transaction comes to: its outcome, the row in which it ends the packet that was open, and what it writes (manual 3, 4.1, 5.6).
+-- What a transaction comes to: its outcome, the row in which it ends the packet that was open, and what it writes (manual 3, 4.1, 5.6, 10.5).
 use Rattle.std.specs.Prelude.{ℕ, Bool, List, Option, None, Some, Ok, Err, ltb, length}
 use Rattle.prelude.specs.After.{After, after}
 use Rattle.prelude.specs.Choice.{when◌then◌else◌}
 use Rattle.record.specs.Transaction.{Transaction}
 use Rattle.settings.specs.Enable.{Answer, Answered, answered, receive_enabled}
+use Rattle.state.specs.declared.Setup.{Setup}
 use Rattle.state.specs.declared.row.Row.{Row}
 use Rattle.state.specs.declared.row.Row.TheVariants as row
 use Rattle.outcome.specs.declared.Cause.TheVariants as cause
@@ -13,7 +14,8 @@ use Rattle.translator.specs.declared.command.Class.{Class}
 use Rattle.translator.specs.declared.command.Class.TheVariants as class
 use Rattle.translator.specs.declared.fragment.Joins.{Joins}
 use Rattle.translator.specs.declared.judged.Judged.{Judged}
-use Rattle.translator.specs.Command.{has_both_flags}
+use Rattle.translator.specs.Check.{passes_check}
+use Rattle.translator.specs.Command.{commands, class_in, has_both_flags}
 use Rattle.translator.specs.Joining.{Stored, stored, joined}
 
 -- an outcome, the row in which the packet that was open ends, if it ends, and the data bytes that are counted (manual 8.3, 8.4)
@@ -80,3 +82,13 @@ unfoldable pub by_class : Class → (maximum open_fragments open_bytes : ℕ) �
 by_class (class.Fragment first last) maximum f b t store settings = in_store (fragment maximum f b t.bytes first last t.link_up store) settings
 by_class class.Enable maximum f b t store settings = after (enable f t.bytes settings).answer store (enable f t.bytes settings).settings
 by_class class.Unknown maximum f b t store settings = after (unknown f t.command) store settings
+
+-- a transaction that does not pass the check is answered 17, breaks the open packet and writes nothing (manual 3.7, 10.5)
+unfoldable pub bad_check : ℕ → Judged
+bad_check open_fragments = judged outcome.BadCheck (ends_in row.Broken open_fragments) 0
+
+-- the check comes before anything reads the command (manual 2.2, 10.5)
+unfoldable pub judge : Setup → (open_fragments open_bytes : ℕ) → Transaction → List ℕ → List ℕ → After Judged
+judge setup f b t store settings =
+    when passes_check setup.check t then by_class (class_in commands t.command) setup.maximum f b t store settings else
+    after (bad_check f) store settings

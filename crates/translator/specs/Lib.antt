@@ -1,3 +1,4 @@
+pub mod Check
 pub mod Command
 pub mod Counting
 pub mod Held

@@ -1,4 +1,4 @@
--- What follows from the rules for every transaction, whatever the state and the buffers (manual 2.2, 2.3, 3, 4, 8).
+-- What follows from the rules for every transaction, whatever the state and the buffers (manual 2.2, 2.3, 3, 4, 8, 10.5).
 use Rattle.std.specs.Prelude.{ℕ, ◌+◌, ◌≤◌, ◌<◌, Bool, true, false, List, ◌⊎◌, ◌≡◌, eqb, leb, ltb, length, get_or}
 use Rattle.prelude.specs.After.{After, after}
 use Rattle.prelude.specs.Choice.{when◌then◌else◌, ◌and◌, ◌or◌}
@@ -9,8 +9,9 @@ use Rattle.settings.specs.Layout as settings_layout
 use Rattle.settings.specs.Properties.{KeepsTheRest}
 use Rattle.state.specs.declared.Account.{Account}
 use Rattle.state.specs.declared.State.{State}
-use Rattle.state.specs.Account.{Formed, limit, is_open, row_count, no_row, sent, superseded, flushed, broken, over, short, linkdown, aborted, badlength, packets_in, fragments_in, bytes_in}
+use Rattle.state.specs.Account.{Formed, limit, is_open, row_count, no_row, sent, superseded, flushed, broken, over, short, linkdown, aborted, badlength, badcheck, packets_in, fragments_in, bytes_in}
 use Rattle.state.specs.Sound.{sound}
+use Rattle.state.specs.State.{check_on, check_off, setup_of, state_of}
 use Rattle.outcome.specs.declared.Cause.{Cause}
 use Rattle.outcome.specs.declared.Cause.TheVariants as cause
 use Rattle.outcome.specs.declared.Outcome.{Outcome}
@@ -19,6 +20,7 @@ use Rattle.outcome.specs.Outcome.{cause_number, number_of, is_counted}
 use Rattle.translator.specs.declared.Transacted.{Transacted}
 use Rattle.translator.specs.declared.command.Class.{Class}
 use Rattle.translator.specs.declared.command.Class.TheVariants as class
+use Rattle.translator.specs.Check.{passes_check}
 use Rattle.translator.specs.Command.{commands, class_in, has_both_flags}
 use Rattle.translator.specs.Transact.{with, transacted}
 
@@ -40,8 +42,8 @@ pub record Counts (before : State) (store settings : List ℕ) (left : After Tra
 abbrev pub EveryTransaction : Type 0
 EveryTransaction = Every (λ state store settings t left. Counts state store settings left)
 
--- 12 where a buffer is too short, whatever else is wrong; else 13 where the state or the settings are not sound; else 14 where the account is full; else it is counted (manual 2.2)
-pub record Orders (before : State) (store settings : List ℕ) (answer : ℕ) : Type 0 where
+-- 12 where a buffer is too short, whatever else is wrong; else 13 where the state or the settings are not sound; else 14 where the account is full; else it is counted, and answered 17 exactly where it does not pass the check, whatever its command (manual 2.2, 10.5)
+pub record Orders (before : State) (store settings : List ℕ) (t : Transaction) (answer : ℕ) : Type 0 where
   pub too_short : (length store < max_packet) ⊎ (length settings < settings_layout.size) → answer ≡ 12
   pub not_sound :
       max_packet ≤ length store → settings_layout.size ≤ length settings
@@ -52,9 +54,30 @@ pub record Orders (before : State) (store settings : List ℕ) (answer : ℕ) : 
   pub counted :
       max_packet ≤ length store → sound before ≡ true → settings_layout.sound settings ≡ true
       → (before.account.beside.total ≡ limit → ⊥) → is_counted answer ≡ true
+  pub wrong_code :
+      max_packet ≤ length store → sound before ≡ true → settings_layout.sound settings ≡ true
+      → (before.account.beside.total ≡ limit → ⊥) → passes_check before.check t ≡ false → answer ≡ 17
+  pub right_code : passes_check before.check t ≡ true → answer ≡ 17 → ⊥
 
 abbrev pub EveryOrder : Type 0
-EveryOrder = Every (λ state store settings t left. Orders state store settings (number_of left.result.outcome))
+EveryOrder = Every (λ state store settings t left. Orders state store settings t (number_of left.result.outcome))
+
+-- a state with the check off (manual 10.1)
+abbrev pub with_check_off : State → State
+with_check_off s = state_of s.account.grid s.account.beside (setup_of s.maximum check_off)
+
+-- a transaction, whatever its address and its code (manual 10.5)
+abbrev pub other_code : (address code : ℕ) → Transaction → Transaction
+other_code address code t = record { address = address; command = t.command; bytes = t.bytes; code = code; link_up = t.link_up }
+
+-- with the check off neither address nor code is read; with the check on, a transaction that passes comes to what it comes to with the check off (manual 10.5)
+pub record Unread (before : State) (store settings : List ℕ) (t : Transaction) (left : After Transacted) : Type 0 where
+  pub off : before.check ≡ check_off → (address code : ℕ) → transacted before store settings (other_code address code t) ≡ left
+  pub passed : before.check ≡ check_on → passes_check check_on t ≡ true
+      → transacted (with_check_off before) store settings t ≡ after (with (with_check_off left.result.state) left.result.outcome) left.store left.settings
+
+abbrev pub EveryUnread : Type 0
+EveryUnread = Every Unread
 
 -- the row of a transaction's own fate (manual 8.3)
 abbrev pub cause_row : Cause → ℕ
@@ -74,6 +97,7 @@ own_row outcome.Taken = no_row
 own_row outcome.NoRoom = no_row
 own_row outcome.NotSound = no_row
 own_row outcome.Full = no_row
+own_row outcome.BadCheck = badcheck
 
 -- the row in which a transaction ends the packet that was open: a fragment answered 3 breaks it, another First supersedes it, a command with both flags flushes it (manual 3.2, 3.4, 3.5)
 abbrev pub fragment_closes : Bool → Outcome → ℕ
@@ -84,10 +108,14 @@ closes_in (class.Fragment first last) command o = fragment_closes first o
 closes_in class.Enable command o = flushed
 closes_in class.Unknown command o = when has_both_flags command then flushed else no_row
 
+-- a wrong code breaks it, whatever the command (manual 3.7)
+abbrev pub closes : ℕ → Outcome → ℕ
+closes command o = when eqb (number_of o) (number_of outcome.BadCheck) then broken else closes_in (class_in commands command) command o
+
 -- it is no row where no packet was open, and where the answer is not counted (manual 8.4)
 unfoldable pub closed_row : Account → ℕ → Outcome → ℕ
 closed_row before command o =
-    when is_open before then (when is_counted (number_of o) then closes_in (class_in commands command) command o else no_row) else no_row
+    when is_open before then (when is_counted (number_of o) then closes command o else no_row) else no_row
 
 -- the cells of a row are as they were (manual 8.4)
 pub record SameRow (row : ℕ) (before after : List ℕ) : Type 0 where
@@ -104,6 +132,7 @@ pub record Frames (before : State) (command : ℕ) (o : Outcome) (after : State)
   pub refused : 7 ≤ number_of o → number_of o ≤ 10 → after.account.beside.refused ≡ before.account.beside.refused + 1
   pub not_refused : (number_of o < 7) ⊎ (10 < number_of o) → after.account.beside.refused ≡ before.account.beside.refused
   pub maximum : after.maximum ≡ before.maximum
+  pub check : after.check ≡ before.check
 
 abbrev pub EveryFrame : Type 0
 EveryFrame = Every (λ state store settings t left. Frames state t.command left.result.outcome left.result.state)
@@ -154,6 +183,7 @@ pub record Leaves (left : Packet) (size : ℕ) (before : Account) (o : Outcome) 
       completes (number_of o) ≡ true → Adds (own_row o) 1 (left.fragments + 1) (left.bytes + size) before.grid after.grid
   pub aborted_counts_alone : number_of o ≡ 2 → Adds aborted 0 1 size before.grid after.grid
   pub bad_length_counts_alone : number_of o ≡ 3 → Adds badlength 0 1 0 before.grid after.grid
+  pub bad_check_counts_alone : number_of o ≡ 17 → Adds badcheck 0 1 0 before.grid after.grid
   pub others_leave_what_is_left : (number_of o ≡ 0 → ⊥) → completes (number_of o) ≡ false → open_packet after ≡ left
 
 abbrev pub EveryLeaving : Type 0

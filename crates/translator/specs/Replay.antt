@@ -8,7 +8,7 @@ use Rattle.record.specs.Records.{Records, records_in}
 use Rattle.record.specs.Transaction.{Transaction}
 use Rattle.settings.specs.Layout.{fresh_settings, with_settings}
 use Rattle.state.specs.declared.State.{State}
-use Rattle.state.specs.State.{made}
+use Rattle.state.specs.State.{is_on, made}
 use Rattle.translator.specs.declared.Transacted.{Transacted}
 use Rattle.translator.specs.declared.records.Replay.{Replay}
 use Rattle.translator.specs.declared.records.Stopped.{Stopped}
@@ -34,9 +34,9 @@ settings_at_start = with_settings fresh_settings []
 abbrev pub replay_of : State → List ℕ → List ℕ → Replay
 replay_of state store settings = record { state = state; store = store; settings = settings }
 
--- a replay for a maximum (manual 9.4)
-unfoldable pub fresh_replay : ℕ → Replay
-fresh_replay maximum = replay_of (made maximum).state empty_store settings_at_start
+-- a replay for a maximum, with the check on or off (manual 9.4)
+unfoldable pub fresh_replay : (maximum : ℕ) → (check : Bool) → Replay
+fresh_replay maximum check = replay_of (made maximum check).state empty_store settings_at_start
 
 -- a bad link byte comes next; else the record there is cut, or nothing is left (manual 9.3)
 abbrev pub stop_of : Bool → Stop
@@ -60,10 +60,10 @@ replayed_to replay stopped = record { replay = replay; stopped = stopped }
 abbrev pub stopped_after : ℕ → Records → After State → Replayed
 stopped_after from records c = replayed_to (replay_of c.result c.store c.settings) (stopped_at (from + records.used) records.bad_link)
 
--- the same, from a state and buffers on (manual 9.4, 9.5)
+-- the same, from a state and buffers on; the records have addresses and codes where the check is on (manual 9.2, 9.4, 9.5)
 unfoldable pub records_taken : State → List ℕ → List ℕ → ℕ → List ℕ → Replayed
 records_taken state store settings from bytes =
-    stopped_after from (records_in bytes) (all_transacted (after state store settings) (records_in bytes).transactions)
+    stopped_after from (records_in (is_on state.check) bytes) (all_transacted (after state store settings) (records_in (is_on state.check) bytes).transactions)
 
 -- what the records of some bytes leave of a replay (manual 9.5)
 abbrev pub replayed : Replay → ℕ → List ℕ → Replayed

@@ -3,6 +3,7 @@ ghost use Rattle.std.specs.Prelude.{◌≡◌, ◌≤◌, length};
 ghost use Rattle.packet.specs.Store.{max_packet};
 ghost use Rattle.prelude.specs.After.{after};
 ghost use Rattle.settings.specs.Enable.{answered};
+ghost use Rattle.record.specs.Transaction.{transaction};
 ghost use Rattle.translator.specs.Command.{commands, class_in, has_both_flags};
 ghost use Rattle.translator.specs.Judge.{by_class, enable, unknown};
 
@@ -10,7 +11,7 @@ use crate::fragment::fragment;
 use crate::judged::{Judged, ends_in};
 use crate::open_packet::OpenPacket;
 use outcome::Outcome;
-use record::Transaction;
+use record::Attributes;
 use state::Row;
 
 #[derive(Clone, Copy)]
@@ -70,26 +71,22 @@ const FIRST: u8 = 0x80;
 const LAST: u8 = 0x40;
 
 // Judges a transaction by its command, and leaves in the store and the settings what it writes there.
-pub(crate) fn judge(
+pub(crate) fn judge_command(
     open_packet: OpenPacket,
     store: &mut [u8],
     settings: &mut [u8],
-    transaction: Transaction<'_>,
+    attributes: Attributes,
+    bytes: &[u8],
 ) -> Judged
     requires { max_packet ≤ length store.old }
-    ensures { after result store.new settings.new ≡ by_class (class_in commands transaction.entry.command) open_packet.maximum open_packet.fragments open_packet.bytes transaction.entry store.old settings.old }
+    ensures { after result store.new settings.new ≡ by_class (class_in commands attributes.command) open_packet.maximum open_packet.fragments open_packet.bytes (transaction attributes bytes.now) store.old settings.old }
 {
-    match class_of(transaction.command) {
-        Class::Fragment { first, last } => fragment(
-            open_packet,
-            store,
-            transaction.bytes,
-            first,
-            last,
-            transaction.link_up,
-        ),
-        Class::Enable => enable(open_packet.fragments, settings, transaction.bytes),
-        Class::Unknown => unknown(open_packet.fragments, transaction.command),
+    match class_of(attributes.command) {
+        Class::Fragment { first, last } => {
+            fragment(open_packet, store, bytes, first, last, attributes.link_up)
+        }
+        Class::Enable => enable(open_packet.fragments, settings, bytes),
+        Class::Unknown => unknown(open_packet.fragments, attributes.command),
     }
 }
 

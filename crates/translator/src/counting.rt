@@ -7,21 +7,6 @@ ghost use Rattle.translator.specs.Rows.{CountFits, Room, in_rows, rows_after};
 use crate::tally::Tally;
 use state::{Beside, COLUMNS, ROW_COUNT, Row};
 
-// The rows after the transaction.
-pub(crate) fn rows_after(
-    rows: [[u64; COLUMNS]; ROW_COUNT],
-    ends: Option<Row>,
-    beside: Beside,
-    tally: Tally,
-) -> [[u64; COLUMNS]; ROW_COUNT]
-    requires { CountFits (row_number ends) beside tally rows }
-    ensures { result ≡ rows_after (row_number ends) beside tally rows }
-{
-    let mut rows = rows;
-    count(&mut rows, ends, beside, tally);
-    rows
-}
-
 // Counts the transaction in the rows where they lie: its own row, and the one in which the packet
 // that was open ends.
 pub(crate) fn count(

@@ -1,7 +1,8 @@
 // One transaction of the management controller from end to end, and a journal's records replayed as
 // transactions.
-#![tactic(auto, using(prelude::proofs::Tests::tests), unfolding(crate::specs::Counting::left_open, crate::specs::Joining::completed_of, crate::specs::Joining::completed, crate::specs::Joining::filled_if, crate::specs::Joining::joined, crate::specs::Judge::ends_in, crate::specs::Judge::bad_length, crate::specs::Judge::sequence_of, crate::specs::Judge::by_sequence, crate::specs::Judge::fragment, crate::specs::Judge::enable, crate::specs::Judge::unknown, crate::specs::Judge::by_class, crate::specs::Rows::in_rows, crate::specs::Rows::rows_after, crate::specs::Transact::readiness_of, crate::specs::Command::has_both_flags))]
+#![tactic(auto, using(prelude::proofs::Tests::tests), unfolding(crate::specs::Counting::left_open, crate::specs::Joining::completed_of, crate::specs::Joining::completed, crate::specs::Joining::filled_if, crate::specs::Joining::joined, crate::specs::Judge::ends_in, crate::specs::Judge::bad_length, crate::specs::Judge::sequence_of, crate::specs::Judge::by_sequence, crate::specs::Judge::fragment, crate::specs::Judge::enable, crate::specs::Judge::unknown, crate::specs::Judge::by_class, crate::specs::Judge::bad_check, crate::specs::Judge::judge, crate::specs::Check::passes_check, crate::specs::Rows::in_rows, crate::specs::Rows::rows_after, crate::specs::Transact::readiness_of, crate::specs::Command::has_both_flags))]
 
+mod check;
 mod command;
 mod counting;
 mod fragment;
@@ -40,19 +41,20 @@ pub fn transact(
 ) -> Transacted
     ensures { after result store.new settings.new ≡ transacted state store.old settings.old transaction.entry }
 {
-    let grid = state.account.grid;
+    let mut rows = state::rows_of(state.account.grid);
     let beside = state.account.beside;
-    let maximum = state.maximum;
-    let readiness = readiness::readiness_of(&grid, beside, maximum, store, settings);
-    let step = step::step_of(readiness, beside, maximum, store, settings, transaction);
-    let rows = counting::rows_after(state::rows_of(grid), step.ends, beside, step.tally);
+    let setup = state.setup();
+    let readiness = readiness::readiness_of(&rows, beside, setup, store, settings);
+    let step = step::step_of(readiness, beside, setup, store, settings, transaction);
+    counting::count(&mut rows, step.ends, beside, step.tally);
     Transacted {
         state: State {
             account: Account {
                 grid: state::flat_of(rows),
                 beside: step.beside,
             },
-            maximum,
+            maximum: setup.maximum,
+            check: setup.check,
         },
         outcome: step.outcome,
     }

@@ -11,7 +11,7 @@ use crate::readiness::readiness_of;
 use crate::step::step_of;
 use outcome::Outcome;
 use record::{Stop, Transaction};
-use state::{Account, Beside, COLUMNS, ROW_COUNT, State};
+use state::{Account, Beside, COLUMNS, ROW_COUNT, Setup, State};
 
 // What a packet needs at most.
 const STORE_SIZE: usize = packet::MAX_PACKET as usize;
@@ -33,13 +33,13 @@ pub struct Stopped {
 
 impl Replay {
     // Starts a replay for fragments of at most `maximum` data bytes, or of the most that are allowed
-    // where the maximum is not.
-    pub fn start(maximum: u32) -> Replay
-        ensures { result ≡ fresh_replay maximum }
+    // where the maximum is not, of records with addresses and codes where the check is on.
+    pub fn start(maximum: u32, check: bool) -> Replay
+        ensures { result ≡ fresh_replay maximum check }
     {
         let mut settings = [0u8; settings::SIZE];
         settings::fresh(&mut settings).unwrap();
-        let made = state::fresh(maximum);
+        let made = state::fresh(maximum, check);
         Replay {
             state: made.state,
             store: [0u8; STORE_SIZE],
@@ -54,36 +54,30 @@ impl Replay {
         ensures { replayed_to self.new result ≡ replayed self.old from (drop from part.now) }
     {
         let account = self.state.account;
-        let maximum = self.state.maximum;
-        let readiness = readiness_of(
-            &account.grid,
-            account.beside,
-            maximum,
-            &self.store,
-            &self.settings,
-        );
-        // a walk and no `for`: each record tells where the next begins, and the account goes along
+        let setup = self.state.setup();
+        let check = setup.check == state::CHECK_ON;
         let mut rows = rows_of(account);
+        let readiness = readiness_of(&rows, account.beside, setup, &self.store, &self.settings);
+        // a walk and no `for`: each record tells where the next begins, and the account goes along
         let mut beside = account.beside;
         let mut at = from;
         let stop = loop {
-            match record::find_at(part, at) {
+            match record::find_at(check, part, at) {
                 Ok(record) => {
                     let transaction = Transaction {
-                        command: record.command,
+                        attributes: record.attributes,
                         bytes: &part[record.start..record.end],
-                        link_up: record.link_up,
                     };
                     beside = take_record(
                         readiness,
                         &mut rows,
                         beside,
-                        maximum,
+                        setup,
                         &mut self.store,
                         &mut self.settings,
                         transaction,
                     );
-                    at = record.end;
+                    at = record.next;
                 }
                 Err(stop) => break stop,
             }
@@ -93,7 +87,8 @@ impl Replay {
                 grid: state::flat_of(rows),
                 beside,
             },
-            maximum,
+            maximum: setup.maximum,
+            check: setup.check,
         };
         Stopped { at, stop }
     }
@@ -120,16 +115,16 @@ fn take_record(
     readiness: Result<(), Outcome>,
     rows: &mut [[u64; COLUMNS]; ROW_COUNT],
     beside: Beside,
-    maximum: u64,
+    setup: Setup,
     store: &mut [u8],
     settings: &mut [u8],
     transaction: Transaction<'_>,
 ) -> Beside
     requires placed { Placed rows.old }
-    requires readiness_value { readiness ≡ readiness_of (held rows.old beside maximum) store.old settings.old }
-    ensures { TakesRecord rows.old beside maximum store.old settings.old transaction.entry rows.new result store.new settings.new }
+    requires readiness_value { readiness ≡ readiness_of (held rows.old beside setup) store.old settings.old }
+    ensures { TakesRecord rows.old beside setup store.old settings.old transaction.entry rows.new result store.new settings.new }
 {
-    let step = step_of(readiness, beside, maximum, store, settings, transaction);
+    let step = step_of(readiness, beside, setup, store, settings, transaction);
     counting::count(rows, step.ends, beside, step.tally);
     step.beside
 }

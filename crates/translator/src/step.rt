@@ -4,10 +4,10 @@ ghost use Rattle.translator.specs.Held.{IsReadiness, Steps, rejected_step};
 
 use crate::open_packet::OpenPacket;
 use crate::tally::Tally;
-use crate::{command, tally};
+use crate::{check, tally};
 use outcome::Outcome;
 use record::Transaction;
-use state::{Beside, Row};
+use state::{Beside, Row, Setup};
 
 #[derive(Clone, Copy)]
 pub(crate) struct Step {
@@ -21,17 +21,17 @@ pub(crate) struct Step {
 }
 
 // Takes a transaction on a state whose readiness is known, but for counting it in the grid.
-// The numbers beside the grid and the maximum come apart: a grid is counted as rows, by value, in a local.
+// The numbers beside the grid and the setup come apart: a grid is counted as rows, in a local.
 pub(crate) fn step_of(
     readiness: Result<(), Outcome>,
     beside: Beside,
-    maximum: u64,
+    setup: Setup,
     store: &mut [u8],
     settings: &mut [u8],
     transaction: Transaction<'_>,
 ) -> Step
-    requires { IsReadiness readiness beside maximum store.old settings.old }
-    ensures { Steps readiness beside maximum store.old settings.old transaction.entry result store.new settings.new }
+    requires { IsReadiness readiness beside setup store.old settings.old }
+    ensures { Steps readiness beside setup store.old settings.old transaction.entry result store.new settings.new }
 {
     if let Err(outcome) = readiness {
         return rejected(outcome, beside);
@@ -42,9 +42,9 @@ pub(crate) fn step_of(
     let open_packet = OpenPacket {
         fragments: beside.open_fragments,
         bytes: beside.open_bytes,
-        maximum,
+        maximum: setup.maximum,
     };
-    let judged = command::judge(open_packet, store, settings, transaction);
+    let judged = check::judge(setup.check, open_packet, store, settings, transaction);
     let tally = tally::tally_of(judged, beside);
     Step {
         outcome: judged.outcome,

@@ -65,6 +65,7 @@ fn outcome_tally(outcome: Outcome, fragments: u64, bytes: u64, size: u64) -> Tal
         Outcome::NoRoom => left(fragments, bytes),
         Outcome::NotSound => left(fragments, bytes),
         Outcome::Full => left(fragments, bytes),
+        Outcome::BadCheck => alone(Row::BadCheck, fragments, bytes, size),
     }
 }
 

@@ -35,7 +35,7 @@ tally_of-tally-requires c =
     let t : Transaction = c.args.transaction in
     record {
       beside_fits = (ready-fits _ _ _ ready c.requires.formed).beside;
-      bytes_le_max_maximum = few (state_of c.requires.grid c.args.beside c.args.maximum) _ _ t _ _ _ ready c.judge-judged.ensures;
+      bytes_le_max_maximum = few (state_of c.requires.grid c.args.beside c.args.setup) _ _ t _ _ _ ready c.judge-judged.ensures;
     }
 
 pub beside_after-requires : goal.beside_after-requires
@@ -47,7 +47,7 @@ beside_after-requires c =
       beside_fits = fits.beside;
       tally_fits =
           rw c.tally_of-tally.ensures
-          (tally-fits c.judge-judged.result _ fits.beside (few (state_of c.requires.grid c.args.beside c.args.maximum) _ _ t _ _ _ ready c.judge-judged.ensures));
+          (tally-fits c.judge-judged.result _ fits.beside (few (state_of c.requires.grid c.args.beside c.args.setup) _ _ t _ _ _ ready c.judge-judged.ensures));
     }
 
 pub returns : goal.returns
@@ -58,4 +58,4 @@ returns c =
     counted-steps _ _ _ _ _ _ c.judge-judged.result _ _ _ _ c.in_default.is c.if-beside-eq-LIMIT.false
     c.judge-judged.ensures c.tally_of-tally.ensures c.beside_after.ensures fits.beside
     (rw c.tally_of-tally.ensures
-    (tally-fits c.judge-judged.result _ fits.beside (few (state_of c.requires.grid c.args.beside c.args.maximum) _ _ t _ _ _ ready c.judge-judged.ensures)))
+    (tally-fits c.judge-judged.result _ fits.beside (few (state_of c.requires.grid c.args.beside c.args.setup) _ _ t _ _ _ ready c.judge-judged.ensures)))

@@ -10,7 +10,7 @@ use Rattle.translator.proofs.records.Replay.take.Goals as goal
 pub loop-record-init : goal.loop-record-init
 loop-record-init c =
     let holds : _ = c.rows_of-rows.ensures in
-    (holds.placed, rw holds.same c.readiness_of-readiness.ensures, rw holds.same refl)
+    (holds.placed, c.readiness_of-readiness.ensures, rw (holds.same, c.setup-setup.ensures) refl)
 
 pub loop-record-preserved : goal.loop-record-preserved
 loop-record-preserved c =
@@ -18,7 +18,7 @@ loop-record-preserved c =
       left.placed,
       c.loop-record.invariant.1
           ∙ sym (ap (λ (x : After State). readiness_of x.result x.store x.settings) left.taken ∙ readiness-stays (held c.loop-record.rows c.loop-record.beside _) _ _ _ refl),
-      records-go-on _ _ _ _ _ _ _ _ _ (sym c.in-Ok.ensures) left.taken ∙ c.loop-record.invariant.2,
+      records-go-on _ _ _ _ _ _ _ _ _ refl (sym c.in-Ok.ensures) left.taken ∙ c.loop-record.invariant.2,
     )
 
 pub returns : goal.returns

@@ -7,8 +7,8 @@ use Rattle.translator.proofs.records.Replay.take.Given as goal
 abbrev pub invariant-loop-record : goal.invariant-loop-record
 invariant-loop-record l =
     Placed l.rows
-    × (l.readiness ≡ readiness_of (held l.rows l.beside l.maximum) l.self.store l.self.settings)
-    × (records_taken (held l.rows l.beside l.maximum) l.self.store l.self.settings l.at (drop l.at l.part) ≡ replayed l.fn.self l.fn.from (drop l.fn.from l.part))
+    × (l.readiness ≡ readiness_of (held l.rows l.beside l.setup) l.self.store l.self.settings)
+    × (records_taken (held l.rows l.beside l.setup) l.self.store l.self.settings l.at (drop l.at l.part) ≡ replayed l.fn.self l.fn.from (drop l.fn.from l.part))
 
 abbrev pub decreases-loop-record : goal.decreases-loop-record
 decreases-loop-record l = length l.part - l.at
