@@ -10,13 +10,13 @@ use Rattle.prelude.specs.Choice.{when◌then◌else◌}
 use Rattle.prelude.proofs.Lists.{all-elements}
 use Rattle.state.specs.declared.Beside.{Beside}
 use Rattle.state.specs.Account.{besides, account_of}
-use Rattle.history.specs.Lines.{Fate, sent, superseded, flushed, broken, over, short, linkdown, aborted, badlength, row_of, fates, Line, row, opened, taken, refused, line_of, Column, packets, fragments, bytes, is_line, in_line, line_number, grid_of}
+use Rattle.history.specs.Lines.{Fate, sent, superseded, flushed, broken, over, short, linkdown, aborted, badlength, badcheck, row_of, fates, Line, row, opened, taken, refused, line_of, Column, packets, fragments, bytes, is_line, in_line, line_number, grid_of}
 use Rattle.history.specs.Packets.{concatenated, total_of, with_fill}
 use Rattle.history.specs.Reading.{Entry, total, Setup}
 use Rattle.history.specs.Runs.{Role, begins, goes_on, ends, passes, roles_back, roles, so_far, Item, run, alone, last_answer, run_from, aborted_if, item_at, items, amount, count_in, items_of, account_for, packets_sent}
 use Rattle.history.specs.Calls.{Kept}
 use Rattle.history.specs.Demand3.{Agrees}
-use Rattle.history.proofs.Cutting.{closing, done_back, count-append, sent-append, Alone, of-3, of-7, of-8, of-9, of-10, of-11, IsRole, AreRoles, cut-count, cut-sent}
+use Rattle.history.proofs.Cutting.{closing, done_back, count-append, sent-append, Alone, of-3, of-7, of-8, of-9, of-10, of-11, of-17, IsRole, AreRoles, cut-count, cut-sent}
 use Rattle.history.proofs.Counts.{cell_in, row-in-grid, in-other-line, in-same-line}
 use Rattle.history.proofs.Roles.{are-roles, are-reversed}
 use Rattle.history.proofs.Partition.{total-reverse}
@@ -35,7 +35,7 @@ unfolding amount
 open-count [] = (refl, refl)
 open-count (p ∷ ps) = (omega (arith, in-same-line opened (length (p ∷ ps))), omega (arith, in-same-line opened (total_of (p ∷ ps))))
 
-not-open-count : (held : List (List ℕ)) (line : Line) (c : Column) → (9 ≡ line_number line → ⊥) → count_in (closing opened held) line c ≡ 0
+not-open-count : (held : List (List ℕ)) (line : Line) (c : Column) → (10 ≡ line_number line → ⊥) → count_in (closing opened held) line c ≡ 0
 not-open-count [] line c n = refl
 not-open-count (p ∷ ps) line c n = omega (arith, in-other-line opened (amount (run (p ∷ ps) opened) c) line n)
 
@@ -70,6 +70,7 @@ as-many-alone _ of-8 = refl
 as-many-alone _ of-9 = refl
 as-many-alone _ of-10 = refl
 as-many-alone _ of-11 = refl
+as-many-alone _ of-17 = refl
 
 as-many-aborted : (held : List (List ℕ)) (piece : List ℕ) → AsMany (aborted_if held piece)
 unfolding amount in_line when◌then◌else◌
@@ -103,7 +104,7 @@ module _ (setup : Setup) (store settings : List ℕ) (entries : List Entry) (kep
 
   grid-is : kept.state.account.grid ≡ grid_of count fates
   grid-is =
-      sym (all-elements 27 kept.state.account.grid r.counts.formed)
+      sym (all-elements 30 kept.state.account.grid r.counts.formed)
       ∙ same_row _ _ _ _ _ _ _ _ (cell sent packets) (cell sent fragments) (cell sent bytes)
       (same_row _ _ _ _ _ _ _ _ (cell superseded packets) (cell superseded fragments) (cell superseded bytes)
       (same_row _ _ _ _ _ _ _ _ (cell flushed packets) (cell flushed fragments) (cell flushed bytes)
@@ -112,7 +113,8 @@ module _ (setup : Setup) (store settings : List ℕ) (entries : List Entry) (kep
       (same_row _ _ _ _ _ _ _ _ (cell short packets) (cell short fragments) (cell short bytes)
       (same_row _ _ _ _ _ _ _ _ (cell linkdown packets) (cell linkdown fragments) (cell linkdown bytes)
       (same_row _ _ _ _ _ _ _ _ (cell aborted packets) (cell aborted fragments) (cell aborted bytes)
-      (same_row _ _ _ _ _ _ _ _ (cell badlength packets) (cell badlength fragments) (cell badlength bytes) refl))))))))
+      (same_row _ _ _ _ _ _ _ _ (cell badlength packets) (cell badlength fragments) (cell badlength bytes)
+      (same_row _ _ _ _ _ _ _ _ (cell badcheck packets) (cell badcheck fragments) (cell badcheck bytes) refl)))))))))
 
   beside-is : kept.state.account.beside ≡ besides (count opened fragments) (count opened bytes) (count taken fragments) (count refused fragments) (total entries)
   beside-is =
@@ -136,6 +138,7 @@ module _ (setup : Setup) (store settings : List ℕ) (entries : List Entry) (kep
   agrees = record {
     account_agrees = account-is;
     maximum_stays = r.maximum-is;
+    check_stays = r.check-is;
     settings_agree = r.settings_are;
     open_packet_agrees = r.stored;
     sent_agree = sent_is;

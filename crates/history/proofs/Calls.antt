@@ -45,18 +45,18 @@ module _ (setup : Setup) (store settings : List ℕ) (start : 15 ≤ length sett
       by_total : (b : Bool) → eqb (total earlier) limit ≡ b → has_room (length store) (length settings) n m ≡ true → Way n m t earlier kept
       by_total true e room =
           let full : total earlier ≡ limit = eqb-true (total earlier) limit e in
-          let rejects = full-rejects setup store settings start n m t.command t.bytes t.link_up earlier kept r room full in
+          let rejects = full-rejects setup store settings start n m t earlier kept r room full in
           is-full room full (entries-are (answered 14) rejects.replies false refl) rejects.replies rejects.nothing_changes
       by_total false e room =
           let not_full : total earlier ≡ limit → ⊥ = eqb-false (total earlier) limit e in
-          let replies : reply_of n m t kept ≡ reply_at setup earlier t = replies-when-counted setup store settings start n m t.command t.bytes t.link_up earlier kept r room not_full in
+          let replies : reply_of n m t kept ≡ reply_at setup earlier t = replies-when-counted setup store settings start n m t earlier kept r room not_full in
           is-counted room (lt_of_le-ne (within earlier kept r) not_full) (entries-are (reply_at setup earlier t) replies true (answer-counted setup earlier t)) replies
-          (reaches-when-counted setup store settings start n m t.command t.bytes t.link_up earlier kept r room not_full)
+          (reaches-when-counted setup store settings start n m t earlier kept r room not_full)
 
       by-room : (b : Bool) → has_room (length store) (length settings) n m ≡ b → Way n m t earlier kept
       by-room true e = by_total (eqb (total earlier) limit) refl e
       by-room false e =
-          let rejects = without-room setup store settings start n m t.command t.bytes t.link_up earlier kept r e in
+          let rejects = without-room setup store settings start n m t earlier kept r e in
           has-no-room e (entries-are (answered 12) rejects.replies false refl) rejects.replies rejects.nothing_changes
 
   -- what any calls reach

@@ -18,7 +18,7 @@ use Rattle.outcome.specs.declared.Outcome.{Outcome}
 use Rattle.translator.specs.Counting as counting
 use Rattle.translator.specs.Judge.{judged, ends_in}
 use Rattle.translator.proofs.Added.{added-formed, added-here, added-elsewhere}
-use Rattle.history.specs.Lines.{Fate, row_of, sent, superseded, flushed, broken, over, short, linkdown, aborted, badlength, Line, row, opened, taken, refused, line_number, Column, packets, fragments, bytes, is_line, in_line}
+use Rattle.history.specs.Lines.{Fate, row_of, sent, superseded, flushed, broken, over, short, linkdown, aborted, badlength, badcheck, Line, row, opened, taken, refused, line_number, Column, packets, fragments, bytes, is_line, in_line}
 use Rattle.history.specs.Packets.{total_of}
 use Rattle.history.specs.Runs.{Item, run, alone, amount, count_in}
 use Rattle.history.proofs.Cutting.{closing, count-append}
@@ -33,6 +33,7 @@ row-in-grid short = omega arith
 row-in-grid linkdown = omega arith
 row-in-grid aborted = omega arith
 row-in-grid badlength = omega arith
+row-in-grid badcheck = omega arith
 
 -- the row of a fate
 abbrev pub fate_row : Fate → Row
@@ -45,6 +46,7 @@ fate_row short = the_row.Short
 fate_row linkdown = the_row.LinkDown
 fate_row aborted = the_row.Aborted
 fate_row badlength = the_row.BadLength
+fate_row badcheck = the_row.BadCheck
 
 fate-place : (fate : Fate) → place_of (fate_row fate) ≡ row_of fate
 fate-place sent = refl
@@ -56,6 +58,7 @@ fate-place short = refl
 fate-place linkdown = refl
 fate-place aborted = refl
 fate-place badlength = refl
+fate-place badcheck = refl
 
 pub in-other-line : (line : Line) (count : ℕ) (other : Line) → (line_number line ≡ line_number other → ⊥) → in_line line count other ≡ 0
 unfolding in_line
@@ -141,9 +144,10 @@ adds-item fate item e = record {
 pub adds_run : (fate : Fate) (pieces : List (List ℕ)) (f b : ℕ) → f ≡ length pieces → b ≡ total_of pieces → Adds (place_of (fate_row fate)) 1 f b 0 0 (run pieces (row fate) ∷ [])
 adds_run fate pieces f b ef eb = rw (fate-place fate, ef, eb) (adds-item fate (run pieces (row fate)) refl)
 
-pub adds-alone : (fate : Fate) (piece : List ℕ) → Adds (row_of fate) 0 1 (length piece) 0 0 (alone piece (row fate) ∷ [])
+pub adds-alone : (fate : Fate) (piece : List ℕ) → Adds (place_of (fate_row fate)) 0 1 (length piece) 0 0 (alone piece (row fate) ∷ [])
 adds-alone fate piece =
-    subst (λ (bytes : List ℕ). Adds (row_of fate) 0 1 (length bytes) 0 0 (alone piece (row fate) ∷ [])) (append-nil piece) (adds-item fate (alone piece (row fate)) refl)
+    rw (fate-place fate)
+    (subst (λ (bytes : List ℕ). Adds (row_of fate) 0 1 (length bytes) 0 0 (alone piece (row fate) ∷ [])) (append-nil piece) (adds-item fate (alone piece (row fate)) refl))
 
 -- a command, in a line that is no row
 adds-command : (line : Line) (k q : ℕ) → ((fate : Fate) → line_number line ≡ row_of fate → ⊥) → k ≡ count_in (alone [] line ∷ []) taken fragments

@@ -125,7 +125,7 @@ module _ (line : Line) (column : Column) where
       let back : reverse_aux (reverse earlier) [] ≡ earlier = reverse-reverse earlier in
       sym (ap (λ (e : List Role). count (done_back e) + count (closing opened (so_far e))) (sym back) ∙ count-from (reverse earlier) [] ∙ omega arith)
 
--- the answers of what stands alone: 3, and 7 to 11
+-- the answers of what stands alone: 3, 7 to 11, and 17
 pub data Alone : ℕ → Type 0 where
   of-3 : Alone 3
   of-7 : Alone 7
@@ -133,6 +133,7 @@ pub data Alone : ℕ → Type 0 where
   of-9 : Alone 9
   of-10 : Alone 10
   of-11 : Alone 11
+  of-17 : Alone 17
 
 abbrev pub IsRole : Role → Type 0
 IsRole (begins last piece link_up) = Unit
@@ -152,6 +153,7 @@ alone-not-sent _ of-8 = refl
 alone-not-sent _ of-9 = refl
 alone-not-sent _ of-10 = refl
 alone-not-sent _ of-11 = refl
+alone-not-sent _ of-17 = refl
 
 open-not-sent : (held : List (List ℕ)) → packets_sent (closing opened held) ≡ []
 unfolding when◌then◌else◌

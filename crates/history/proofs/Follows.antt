@@ -10,7 +10,7 @@ use lib.Dec.{eqb, ltb, leb}
 use lib.ListN.{length, length-append}
 use borrow.Author.Tests.{ltb-false, lt-ltb, le-ltb, leb-true, leb-false, ne_eqb}
 use Rattle.prelude.specs.Choice.{when◌then◌else◌, ◌and◌}
-use Rattle.prelude.proofs.Tests.{if-false}
+use Rattle.prelude.proofs.Tests.{if-false, if-both}
 use Rattle.packet.specs.Store.{max_packet, min_packet, filled}
 use Rattle.packet.specs.Store as store_of
 use Rattle.state.specs.declared.Account.{Account}
@@ -26,21 +26,15 @@ use Rattle.translator.specs.Counting as counting
 use Rattle.translator.specs.Joining as join
 use Rattle.translator.specs.Judge as judge
 use Rattle.translator.proofs.Joined.{written, last_of, by_last, joined-by-last}
-use Rattle.history.specs.Lines.{Fate, row_of, sent, superseded, flushed, broken, over, short, linkdown, aborted, badlength, row, line_of}
+use Rattle.history.specs.Lines.{Fate, row_of, sent, superseded, flushed, broken, over, short, linkdown, aborted, badlength, badcheck, row, line_of}
 use Rattle.history.specs.Packets.{concatenated, total_of, sent_length}
 use Rattle.history.specs.Reading.{Setup, is_length_allowed}
 use Rattle.history.specs.Runs.{Role, begins, goes_on, ends, passes, Item, run, alone, last_answer, completed, packets_sent}
 use Rattle.history.specs.Replies.{answered, last_reply, taken_reply, reply_on}
 use Rattle.history.specs.Calls.{packets_of}
-use Rattle.history.proofs.Cutting.{held_on, closing, closed, own, Alone, of-3, of-7, of-8, of-9, of-10, of-11, alone-not-sent, sent-append}
+use Rattle.history.proofs.Cutting.{held_on, closing, closed, own, Alone, of-3, of-7, of-8, of-9, of-10, of-11, of-17, alone-not-sent, sent-append}
 use Rattle.history.proofs.Counts.{fate_row, Counts, Adds, adds_none, adds_run, adds-alone, adds-closing, left-none, left-all, none-held, counted-counts}
 use Rattle.history.proofs.Holds.{Holds, holds-nothing, written-holds, filled-length, sent-shown}
-
--- two choices by one test
-pub if-both : {A B : Type 0} (P : A → B → Type 0) (t : Bool) (a b : A) (c d : B) → (t ≡ true → P a c) → (t ≡ false → P b d) → P (when t then a else b) (when t then c else d)
-unfolding when◌then◌else◌
-if-both P true a b c d p q = p refl
-if-both P false a b c d p q = q refl
 
 pub concatenated-snoc : (pieces : List (List ℕ)) (piece : List ℕ) → concatenated (pieces ++ piece ∷ []) ≡ concatenated pieces ++ piece
 concatenated-snoc [] piece = append-nil piece
@@ -194,6 +188,26 @@ module _ (a : Account) (held : List (List ℕ)) (done : List Item) (total : ℕ)
             rw sum last_goes
         last-or-not false = open-goes
 
+  -- what breaks the packet, and stands in a row alone and with no bytes
+  breaks-follows : (store : List ℕ) → Holds size store held → (o : Outcome) (fate : Fate) (answer : ℕ)
+      → ((f b : ℕ) → counting.outcome_tally o f b 0 ≡ counting.alone (fate_row fate) f b 0)
+      → line_of answer ≡ row fate → packets_of (reply_to o) (store ++ rest) ≡ packets_sent (alone [] (line_of answer) ∷ []) → reply_to o ≡ answered answer
+      → Follows o (judge.ends_in (fate_row broken) open_fragments) 0 store (ends broken answer)
+  breaks-follows store holds o fate answer tally stands none reply = record {
+    counts-are =
+        counted-counts o (judge.ends_in (fate_row broken) open_fragments) 0 a counts [] (closing (row broken) held) (alone [] (line_of answer) ∷ [])
+        (adds-closing broken held open_fragments open_bytes counts.held_fragments counts.held_bytes) _ _ _ _ _ _ _ _ (tally _ _) (rw stands (adds-alone fate []))
+        (left-none broken held open_fragments open_fragments counts.held_fragments (λ none. none))
+        (left-none broken held open_fragments open_bytes counts.held_fragments (none-held held open_fragments open_bytes counts.held_fragments counts.held_bytes));
+    holds = holds-nothing store holds.size_is holds.room;
+    sent_are = sent-then (closing (row broken) held) (alone [] (line_of answer) ∷ []) _ (closing-unsent broken held (λ q. omega (arith, q))) (sym none);
+    reply_is = reply;
+  }
+
+  pub check-follows : (store : List ℕ) → Holds size store held → (let j = judge.bad_check open_fragments in Follows j.outcome j.ends j.bytes store (ends broken 17))
+  unfolding judge.bad_check packets_of when◌then◌else◌
+  check-follows store holds = breaks-follows store holds outcome.BadCheck badcheck 17 (λ f b. refl) refl refl refl
+
   -- a fragment, as the rules take it and as the history reads it
   module _ (store : List ℕ) (holds : Holds size store held) (piece : List ℕ) (last link_up : Bool) where
     abbrev Stores : judge.JudgedWithStore → Role → Type 0
@@ -255,16 +269,7 @@ module _ (a : Account) (held : List (List ℕ)) (done : List Item) (total : ℕ)
 
     bad-follows : Stores (join.stored (judge.bad_length open_fragments) store) (ends broken 3)
     unfolding judge.bad_length packets_of when◌then◌else◌
-    bad-follows = record {
-      counts-are =
-          counted-counts (outcome.Discarded cause.BadLength) (judge.ends_in (fate_row broken) open_fragments) 0 a counts [] (closing (row broken) held) (alone [] (line_of 3) ∷ [])
-          (adds-closing broken held open_fragments open_bytes counts.held_fragments counts.held_bytes) _ _ _ _ _ _ _ _ refl (adds-alone badlength [])
-          (left-none broken held open_fragments open_fragments counts.held_fragments (λ none. none))
-          (left-none broken held open_fragments open_bytes counts.held_fragments (none-held held open_fragments open_bytes counts.held_fragments counts.held_bytes));
-      holds = holds-nothing store holds.size_is holds.room;
-      sent_are = sent-then (closing (row broken) held) (alone [] (line_of 3) ∷ []) [] (closing-unsent broken held (λ q. omega (arith, q))) refl;
-      reply_is = refl;
-    }
+    bad-follows = breaks-follows store holds (outcome.Discarded cause.BadLength) badlength 3 (λ f b. refl) refl refl refl
 
     pub fragment-follows : (setup : Setup) (first : Bool) → Stores (judge.fragment setup.maximum open_fragments open_bytes piece first last link_up store) (fragment_role piece last link_up setup first)
     unfolding is_length_allowed judge.fragment judge.sequence_of judge.by_sequence when◌then◌else◌
@@ -300,6 +305,7 @@ module _ (a : Account) (held : List (List ℕ)) (done : List Item) (total : ℕ)
         by_answer _ of-9 = refl
         by_answer _ of-10 = refl
         by_answer _ of-11 = refl
+        by_answer _ of-17 = refl
 
     pub flush-follows : Follows o (judge.ends_in (fate_row flushed) open_fragments) 0 store (ends flushed answer)
     flush-follows = record {

@@ -1,5 +1,6 @@
 pub mod Agrees
 pub mod Calls
+pub mod Codes
 pub mod Contract
 pub mod Counts
 pub mod Cutting

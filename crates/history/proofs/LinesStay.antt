@@ -13,7 +13,7 @@ use Rattle.history.specs.Settings.{is_mac_kept}
 use Rattle.history.specs.Runs.{Role, begins, goes_on, ends, passes, role_of, roles_back, roles, grown, so_far, last_answer, run_from}
 use Rattle.history.specs.Partition.{line_from, line_at, lines_after, lines_of}
 use Rattle.history.specs.LinesStay.{moved_to, LinesStay}
-use Rattle.history.proofs.Cutting.{Alone, of-3, of-7, of-8, of-9, of-10, of-11, IsRole, AreRoles}
+use Rattle.history.proofs.Cutting.{Alone, of-3, of-7, of-8, of-9, of-10, of-11, of-17, IsRole, AreRoles}
 use Rattle.history.proofs.Roles.{are-roles, are-reversed, line-of-answer}
 
 -- lines that are never that of an open packet
@@ -32,6 +32,7 @@ alone-stays to _ of-8 = refl
 alone-stays to _ of-9 = refl
 alone-stays to _ of-10 = refl
 alone-stays to _ of-11 = refl
+alone-stays to _ of-17 = refl
 
 -- with one role more behind the others
 module _ (role : Role) where
@@ -68,15 +69,15 @@ module _ (role : Role) where
       ∙ ap (λ (ls : List Line). moved_to (goal (r ∷ later) earlier) (line_at earlier r later) ∷ ls) (lines-move later (r ∷ earlier) i.1)
 
 -- the roles of one entry more
-pub roles-snoc : (setup : Setup) (entries : List Entry) (t : Transaction) → roles setup (entries ++ counted t ∷ []) ≡ roles setup entries ++ role_of setup (is_mac_kept (reverse entries)) t ∷ []
+pub roles-snoc : (setup : Setup) (entries : List Entry) (t : Transaction) → roles setup (entries ++ counted t ∷ []) ≡ roles setup entries ++ role_of setup (is_mac_kept setup (reverse entries)) t ∷ []
 roles-snoc setup entries t =
     ap (λ (list : List Entry). reverse (roles_back setup list)) (reverse-append entries (counted t ∷ []))
-    ∙ reverse-cons (role_of setup (is_mac_kept (reverse entries)) t) (roles_back setup (reverse entries))
+    ∙ reverse-cons (role_of setup (is_mac_kept setup (reverse entries)) t) (roles_back setup (reverse entries))
 
 pub lines_stay : LinesStay
 lines_stay setup entries t =
     let back : List Role = roles_back setup (reverse entries) in
-    let role : Role = role_of setup (is_mac_kept (reverse entries)) t in
+    let role : Role = role_of setup (is_mac_kept setup (reverse entries)) t in
     ap (lines_after []) (roles-snoc setup entries t)
     ∙ (lines-move role (reverse back) [] (are-reversed back [] (are-roles setup (reverse entries)) tt)
     ∙ (ap (λ (b : List Role). map (moved_to (run_from (so_far b) (role ∷ [])).line) (lines_of setup entries) ++ line_at b role [] ∷ []) (reverse-reverse back)

@@ -8,12 +8,12 @@ use native.Mathlib.Omega.{arith}
 use lib.ListN.{length, length-append, length-reverse_aux}
 use Rattle.prelude.specs.Choice.{when◌then◌else◌}
 use Rattle.prelude.proofs.Tests.{if-cases}
-use Rattle.history.specs.Lines.{Fate, sent, superseded, flushed, broken, over, short, linkdown, aborted, badlength, Line, row, opened, lines, line_of, fragments, is_line, in_line}
+use Rattle.history.specs.Lines.{Fate, sent, superseded, flushed, broken, over, short, linkdown, aborted, badlength, badcheck, Line, row, opened, lines, line_of, fragments, is_line, in_line}
 use Rattle.history.specs.Packets.{total_of}
 use Rattle.history.specs.Reading.{Entry, counted, total, Setup}
 use Rattle.history.specs.Runs.{Role, begins, goes_on, ends, passes, roles_back, roles, grown, so_far, last_answer, run_from, amount, items, count_in, items_of}
 use Rattle.history.specs.Partition.{line_from, line_at, lines_after, lines_of, places_in, sum_over, Partition}
-use Rattle.history.proofs.Cutting.{pending, Alone, of-3, of-7, of-8, of-9, of-10, of-11, IsRole, AreRoles}
+use Rattle.history.proofs.Cutting.{pending, Alone, of-3, of-7, of-8, of-9, of-10, of-11, of-17, IsRole, AreRoles}
 use Rattle.history.proofs.Roles.{are-roles, are-reversed, roles-length}
 
 in-line-add : (line : Line) (m n : ℕ) (other : Line) → in_line line (m + n) other ≡ in_line line m other + in_line line n other
@@ -86,6 +86,7 @@ row-once short = refl
 row-once linkdown = refl
 row-once aborted = refl
 row-once badlength = refl
+row-once badcheck = refl
 
 opened-once : Once opened
 unfolding in_line when◌then◌else◌
@@ -107,6 +108,7 @@ alone-once _ of-8 = refl
 alone-once _ of-9 = refl
 alone-once _ of-10 = refl
 alone-once _ of-11 = refl
+alone-once _ of-17 = refl
 
 run-once : (later : List Role) (pieces : List (List ℕ)) → Once (run_from pieces later).line
 run-once [] pieces = opened-once

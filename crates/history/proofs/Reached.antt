@@ -1,7 +1,7 @@
 -- What holds after any calls from a fresh start, and that each call keeps it.
 -- Assumes nothing.
 use Prim.Native.Nat.{ℕ, ◌<◌, ◌≤◌, min}
-use mathlib.Core.Bool.{Bool, true, false}
+use mathlib.Core.Bool.{Bool, true, false, not}
 use mathlib.Core.List.{List, [], ◌∷◌, ◌++◌, append_assoc, append-nil}
 use mathlib.Core.Path.{◌≡◌, refl, sym, ap, ◌∙◌, subst}
 use native.Mathlib.Omega.{arith}
@@ -13,7 +13,7 @@ use Rattle.prelude.specs.After.{After, after}
 use Rattle.prelude.specs.Choice.{when◌then◌else◌, ◌and◌}
 use Rattle.prelude.proofs.Tests.{if-true, if-false, if-first, if-second}
 use Rattle.packet.specs.Store.{max_packet}
-use Rattle.record.specs.Transaction.{Transaction, transaction}
+use Rattle.record.specs.Transaction.{Transaction}
 use Rattle.settings.specs.Layout as layout
 use Rattle.settings.specs.Enable as enable
 use Rattle.state.specs.declared.State.{State}
@@ -24,24 +24,25 @@ use Rattle.outcome.specs.declared.Outcome.{Outcome}
 use Rattle.outcome.specs.declared.Outcome.TheVariants as outcome
 use Rattle.outcome.specs.Outcome.{reply_to}
 use Rattle.translator.specs.declared.Transacted.{Transacted}
-use Rattle.translator.specs.Command.{class_in, has_both_flags}
+use Rattle.translator.specs.Command.{commands, class_in, has_both_flags}
 use Rattle.translator.specs.Judge as judge
 use Rattle.translator.specs.Transact as transact
 use Rattle.translator.proofs.Properties.{every-transaction}
-use Rattle.history.specs.Lines.{flushed}
+use Rattle.history.specs.Lines.{flushed, broken}
 use Rattle.history.specs.Packets.{compared_from}
-use Rattle.history.specs.Reading.{Entry, counted, total, Setup, is_fragment}
+use Rattle.history.specs.Reading.{Entry, counted, total, Setup, is_fragment, is_code_bad}
 use Rattle.history.specs.Settings.{settings_of, enable_answer, taken_forms, is_mac_kept}
-use Rattle.history.specs.Runs.{Role, ends, passes, command_answer, role_of, roles_back, so_far, packets_sent}
+use Rattle.history.specs.Runs.{Role, ends, passes, command_answer, command_role, role_of, roles_back, so_far, packets_sent}
 use Rattle.history.specs.Replies.{answered, reply_at}
 use Rattle.history.specs.Calls.{Call, Kept, transacted_by, reply_of, packets_of, left_by, step, has_room}
 use Rattle.history.specs.Calls as calls
+use Rattle.history.proofs.Codes.{check-agrees}
 use Rattle.history.proofs.Cutting.{of-7, of-8, of-9, of-10, of-11, held_on, so-far-on, done_back}
 use Rattle.history.proofs.Counts.{fate_row, Counts, adds-taken, adds-refused}
 use Rattle.history.proofs.Holds.{Holds, stored-lent, stored-whole}
-use Rattle.history.proofs.Settings.{settings-size, AnswersAs, as-taken, as-bad-form, as-bad-control, as-no-mac, enable-reads, other-forms}
-use Rattle.history.proofs.Follows.{fragment_role, Follows, fragment-follows, flush-follows, pass-follows}
-use Rattle.history.proofs.Roles.{by-command, unknown-role}
+use Rattle.history.proofs.Settings.{settings-size, AnswersAs, as-taken, as-bad-form, as-bad-control, as-no-mac, enable-reads, other-forms, bad-code-forms, right-code-forms}
+use Rattle.history.proofs.Follows.{fragment_role, Follows, fragment-follows, flush-follows, pass-follows, check-follows}
+use Rattle.history.proofs.Roles.{with_command, by-command, unknown-role}
 
 -- the soundness of settings is that of their first bytes
 sound-front : (lent rest : List ℕ) → layout.size ≤ length lent → layout.sound (lent ++ rest) ≡ layout.sound lent
@@ -76,11 +77,12 @@ module _ (s : State) (store settings : List ℕ) (t : Transaction) where
 pub record Reached (setup : Setup) (store settings : List ℕ) (earlier : List Entry) (kept : Kept) : Type 0 where
   pub counts : Counts kept.state.account (so_far (roles_back setup earlier)) (done_back (roles_back setup earlier)) (total earlier)
   pub maximum-is : kept.state.maximum ≡ setup.maximum
+  pub check-is : kept.state.check ≡ (when setup.check then 1 else 0)
   pub state_is_sound : sound kept.state ≡ true
   pub store_length : length kept.store ≡ length store
   pub stored : take (length (compared_from 0 (so_far (roles_back setup earlier)))) kept.store ≡ compared_from 0 (so_far (roles_back setup earlier))
   pub sent_are : kept.sent ≡ packets_sent (done_back (roles_back setup earlier))
-  pub settings_are : kept.settings ≡ settings_of (taken_forms earlier) ++ drop 15 settings
+  pub settings_are : kept.settings ≡ settings_of (taken_forms setup earlier) ++ drop 15 settings
   pub settings_are_sound : layout.sound kept.settings ≡ true
 
 -- a transaction that is rejected leaves all as it was
@@ -88,11 +90,8 @@ unmoved : (kept : Kept) (n m : ℕ) (o : Outcome) → ((store : List ℕ) → pa
     → left_by kept (drop n kept.store) (drop m kept.settings) (after (transact.with kept.state o) (take n kept.store) (take m kept.settings)) ≡ kept
 unmoved kept n m o none = simp (none, append-nil, take-append-drop n kept.store, take-append-drop m kept.settings)
 
-module _ (setup : Setup) (store settings : List ℕ) (start : 15 ≤ length settings) (n m command : ℕ) (bytes : List ℕ) (link_up : Bool) (earlier : List Entry) (kept : Kept)
+module _ (setup : Setup) (store settings : List ℕ) (start : 15 ≤ length settings) (n m : ℕ) (t : Transaction) (earlier : List Entry) (kept : Kept)
     (r : Reached setup store settings earlier kept) where
-  abbrev t : Transaction
-  t = transaction command bytes link_up
-
   abbrev call : Call
   call = calls.transact n m t
 
@@ -110,7 +109,7 @@ module _ (setup : Setup) (store settings : List ℕ) (start : 15 ≤ length sett
 
   settings-length : length kept.settings ≡ length settings
   settings-length =
-      ap length r.settings_are ∙ (length-append (settings_of (taken_forms earlier)) (drop 15 settings) ∙ omega (arith, settings-size (taken_forms earlier), length-drop 15 settings))
+      ap length r.settings_are ∙ (length-append (settings_of (taken_forms setup earlier)) (drop 15 settings) ∙ omega (arith, settings-size (taken_forms setup earlier), length-drop 15 settings))
 
   store-lent : length lent_store ≡ min n (length store)
   store-lent = length-take n kept.store ∙ ap (min n) r.store_length
@@ -169,7 +168,7 @@ module _ (setup : Setup) (store settings : List ℕ) (start : 15 ≤ length sett
     held = so_far (roles_back setup earlier)
 
     abbrev forms : List (List ℕ)
-    forms = taken_forms earlier
+    forms = taken_forms setup earlier
 
     -- the settings that are lent are those of the forms taken, and some of what lies past them
     lent-settings-are : lent_settings ≡ settings_of forms ++ drop 15 lent_settings
@@ -190,50 +189,51 @@ module _ (setup : Setup) (store settings : List ℕ) (start : 15 ≤ length sett
     holds : Holds (length lent_store) lent_store held
     holds = stored-lent lent_store store_rest held store-room (rw (take-append-drop n kept.store) r.stored)
 
-    -- what is shown of what a command comes to
-    record Served (c : ℕ) (o : Outcome) (ending : Option Row) (size : ℕ) (store-after settings-after : List ℕ) : Type 0 where
+    -- what is shown of what a transaction comes to that has this role
+    record Served (u : Transaction) (role : Role) (o : Outcome) (ending : Option Row) (size : ℕ) (store-after settings-after : List ℕ) : Type 0 where
       follows : Follows kept.state.account held (done_back (roles_back setup earlier)) (total earlier) r.counts kept.sent r.sent_are (length lent_store) store_rest
-          o ending size store-after (role_of setup (is_mac_kept earlier) (transaction c bytes link_up))
-      leaves : settings-after ≡ settings_of (taken_forms (counted (transaction c bytes link_up) ∷ earlier)) ++ drop 15 lent_settings
+          o ending size store-after role
+      leaves : settings-after ≡ settings_of (taken_forms setup (counted u ∷ earlier)) ++ drop 15 lent_settings
 
     -- a command that is no Receive Enable leaves the settings
-    settings-stay : (c : ℕ) → (c ≡ 0xCA → ⊥) → lent_settings ≡ settings_of (taken_forms (counted (transaction c bytes link_up) ∷ earlier)) ++ drop 15 lent_settings
-    settings-stay c other = rw (other-forms (transaction c bytes link_up) earlier other) lent-settings-are
+    settings-stay : (c : ℕ) → (c ≡ 0xCA → ⊥) → lent_settings ≡ settings_of (taken_forms setup (counted (with_command c t) ∷ earlier)) ++ drop 15 lent_settings
+    settings-stay c other = rw (other-forms setup (with_command c t) earlier other) lent-settings-are
 
     abbrev FragmentServed : ℕ → Bool → Bool → Type 0
     FragmentServed c first last =
-        let s : judge.JudgedWithStore = judge.fragment kept.state.maximum kept.state.account.beside.open_fragments kept.state.account.beside.open_bytes bytes first last link_up lent_store in
-        Served c s.result.outcome s.result.ends s.result.bytes s.store lent_settings
+        let s : judge.JudgedWithStore = judge.fragment kept.state.maximum kept.state.account.beside.open_fragments kept.state.account.beside.open_bytes t.bytes first last t.link_up lent_store in
+        Served (with_command c t) (command_role setup (is_mac_kept setup earlier) (with_command c t)) s.result.outcome s.result.ends s.result.bytes s.store lent_settings
 
     fragment-served : (c : ℕ) (first last : Bool) → (c ≡ 0xCA → ⊥)
-        → role_of setup (is_mac_kept earlier) (transaction c bytes link_up) ≡ fragment_role bytes last link_up setup first → FragmentServed c first last
+        → command_role setup (is_mac_kept setup earlier) (with_command c t) ≡ fragment_role t.bytes last t.link_up setup first → FragmentServed c first last
     fragment-served c first last other is-role = record {
       follows =
           subst (λ (role : Role). FollowsAs kept.state.maximum role) (sym is-role)
-          (subst (λ (k : ℕ). FollowsAs k (fragment_role bytes last link_up setup first)) (sym r.maximum-is)
-          (fragment-follows kept.state.account held (done_back (roles_back setup earlier)) (total earlier) r.counts kept.sent r.sent_are (length lent_store) store_rest lent_store holds bytes last link_up setup first));
+          (subst (λ (k : ℕ). FollowsAs k (fragment_role t.bytes last t.link_up setup first)) (sym r.maximum-is)
+          (fragment-follows kept.state.account held (done_back (roles_back setup earlier)) (total earlier) r.counts kept.sent r.sent_are (length lent_store) store_rest lent_store holds t.bytes last t.link_up setup first));
       leaves = settings-stay c other;
     }
       where
         FollowsAs : ℕ → Role → Type 0
         FollowsAs k role =
-            let s : judge.JudgedWithStore = judge.fragment k kept.state.account.beside.open_fragments kept.state.account.beside.open_bytes bytes first last link_up lent_store in
+            let s : judge.JudgedWithStore = judge.fragment k kept.state.account.beside.open_fragments kept.state.account.beside.open_bytes t.bytes first last t.link_up lent_store in
             Follows kept.state.account held (done_back (roles_back setup earlier)) (total earlier) r.counts kept.sent r.sent_are (length lent_store) store_rest
             s.result.outcome s.result.ends s.result.bytes s.store role
 
-    -- what the rules judge
-    abbrev JudgedServed : ℕ → Type 0
-    JudgedServed c =
-        let d = transact.judged_on kept.state lent_store lent_settings (transaction c bytes link_up) in
-        Served c d.result.outcome d.result.ends d.result.bytes d.store d.settings
+    -- what the rules judge by the command, where the code is not bad
+    abbrev ByCommandServed : ℕ → Type 0
+    ByCommandServed c =
+        let d = judge.by_class (class_in commands c) kept.state.maximum kept.state.account.beside.open_fragments kept.state.account.beside.open_bytes (with_command c t) lent_store lent_settings in
+        is_code_bad setup (with_command c t) ≡ false
+        → Served (with_command c t) (command_role setup (is_mac_kept setup earlier) (with_command c t)) d.result.outcome d.result.ends d.result.bytes d.store d.settings
 
-    enable-served : JudgedServed 0xCA
-    unfolding class_in judge.by_class judge.enable role_of is_fragment command_answer when◌then◌else◌
-    enable-served =
-        let reads = enable-reads forms lent_settings (drop 15 lent_settings) bytes lent-settings-are lent-is-sound in
+    enable-served : ByCommandServed 0xCA
+    unfolding class_in judge.by_class judge.enable command_role is_fragment command_answer when◌then◌else◌
+    enable-served right =
+        let reads = enable-reads forms lent_settings (drop 15 lent_settings) t.bytes lent-settings-are lent-is-sound in
         record {
-          follows = by_answer (enable.receive_enabled lent_settings bytes).answer (enable_answer (is_mac_kept earlier) bytes) reads.answers;
-          leaves = reads.leaves;
+          follows = by_answer (enable.receive_enabled lent_settings t.bytes).answer (enable_answer (is_mac_kept setup earlier) t.bytes) reads.answers;
+          leaves = rw (right-code-forms setup (with_command 0xCA t) right) reads.leaves;
         }
       where
         by_answer : (e : enable.Answer) (answer : ℕ) → AnswersAs e answer
@@ -253,11 +253,11 @@ module _ (setup : Setup) (store settings : List ℕ) (start : 15 ≤ length sett
             flush-follows kept.state.account held (done_back (roles_back setup earlier)) (total earlier) r.counts kept.sent r.sent_are (length lent_store) store_rest lent_store holds
             (outcome.Refused _) 10 0 1 of-10 refl (λ f b. refl) adds-refused
 
-    unknown-served : (c : ℕ) → (c ≡ 0x84 → ⊥) → (c ≡ 0x04 → ⊥) → (c ≡ 0x44 → ⊥) → (c ≡ 0xC4 → ⊥) → (c ≡ 0xCA → ⊥) → JudgedServed c
+    unknown-served : (c : ℕ) → (c ≡ 0x84 → ⊥) → (c ≡ 0x04 → ⊥) → (c ≡ 0x44 → ⊥) → (c ≡ 0xC4 → ⊥) → (c ≡ 0xCA → ⊥) → ByCommandServed c
     unfolding class_in judge.by_class judge.unknown when◌then◌else◌
-    unknown-served c n₁ n₂ n₃ n₄ n₅ =
+    unknown-served c n₁ n₂ n₃ n₄ n₅ _ =
         rw (ne_eqb c 0x84 n₁, ne_eqb c 0x04 n₂, ne_eqb c 0x44 n₃, ne_eqb c 0xC4 n₄, ne_eqb c 0xCA n₅)
-        (record { follows = rw (unknown-role setup (is_mac_kept earlier) c bytes link_up n₁ n₂ n₃ n₄ n₅) (by_flags (has_both_flags c)); leaves = settings-stay c n₅ })
+        (record { follows = rw (unknown-role setup (is_mac_kept setup earlier) c t n₁ n₂ n₃ n₄ n₅) (by_flags (has_both_flags c)); leaves = settings-stay c n₅ })
       where
         by_flags : (both : Bool)
             → (let j = when both then judge.judged outcome.Unknown (judge.ends_in (fate_row flushed) kept.state.account.beside.open_fragments) 0 else judge.judged outcome.Unknown None 0 in
@@ -270,21 +270,40 @@ module _ (setup : Setup) (store settings : List ℕ) (start : 15 ≤ length sett
             pass-follows kept.state.account held (done_back (roles_back setup earlier)) (total earlier) r.counts kept.sent r.sent_are (length lent_store) store_rest lent_store holds
             outcome.Unknown 7 0 1 of-7 refl (λ f b. refl) adds-refused
 
-    served : JudgedServed command
-    unfolding class_in judge.by_class role_of is_fragment when◌then◌else◌
-    served =
-        by-command JudgedServed
-        (fragment-served 0x84 true false (λ q. omega (arith, q)) refl)
-        (fragment-served 0x04 false false (λ q. omega (arith, q)) refl)
-        (fragment-served 0x44 false true (λ q. omega (arith, q)) refl)
-        (fragment-served 0xC4 true true (λ q. omega (arith, q)) refl)
+    by-command-served : ByCommandServed t.command
+    unfolding class_in judge.by_class command_role is_fragment when◌then◌else◌
+    by-command-served =
+        by-command ByCommandServed
+        (λ _. fragment-served 0x84 true false (λ q. omega (arith, q)) refl)
+        (λ _. fragment-served 0x04 false false (λ q. omega (arith, q)) refl)
+        (λ _. fragment-served 0x44 false true (λ q. omega (arith, q)) refl)
+        (λ _. fragment-served 0xC4 true true (λ q. omega (arith, q)) refl)
         enable-served
         unknown-served
-        command
+        t.command
+
+    -- what the rules judge
+    served :
+        (let d = transact.judged_on kept.state lent_store lent_settings t in
+        Served t (role_of setup (is_mac_kept setup earlier) t) d.result.outcome d.result.ends d.result.bytes d.store d.settings)
+    unfolding judge.judge role_of when◌then◌else◌
+    served = rw (check-agrees setup kept.state.check t r.check-is) (by-code (is_code_bad setup t) refl)
+      where
+        by-code : (bad : Bool) → is_code_bad setup t ≡ bad
+            → (let d =
+            when not bad then judge.by_class (class_in commands t.command) kept.state.maximum kept.state.account.beside.open_fragments kept.state.account.beside.open_bytes t lent_store lent_settings else
+            after (judge.bad_check kept.state.account.beside.open_fragments) lent_store lent_settings in
+            let role : Role = when bad then ends broken 17 else command_role setup (is_mac_kept setup earlier) t in
+            Served t role d.result.outcome d.result.ends d.result.bytes d.store d.settings)
+        by-code true bad = record {
+          follows = check-follows kept.state.account held (done_back (roles_back setup earlier)) (total earlier) r.counts kept.sent r.sent_are (length lent_store) store_rest lent_store holds;
+          leaves = rw (bad-code-forms setup t earlier bad) lent-settings-are;
+        }
+        by-code false right = by-command-served right
 
     module _ (not_full : total earlier ≡ limit → ⊥) where
       abbrev role : Role
-      role = role_of setup (is_mac_kept earlier) t
+      role = role_of setup (is_mac_kept setup earlier) t
 
       applied-is : transacted_by n m t kept ≡ transact.applied kept.state (transact.judged_on kept.state lent_store lent_settings t)
       applied-is =
@@ -293,12 +312,12 @@ module _ (setup : Setup) (store settings : List ℕ) (start : 15 ≤ length sett
       pub replies-when-counted : reply_of n m t kept ≡ reply_at setup earlier t
       replies-when-counted = ap (λ (left : After Transacted). reply_to left.result.outcome) applied-is ∙ served.follows.reply_is
 
-      settings-after : (step call kept).settings ≡ settings_of (taken_forms (counted t ∷ earlier)) ++ drop 15 settings
+      settings-after : (step call kept).settings ≡ settings_of (taken_forms setup (counted t ∷ earlier)) ++ drop 15 settings
       settings-after =
           ap (λ (left : After Transacted). left.settings ++ settings_rest) applied-is
           ∙ (ap (λ (front : List ℕ). front ++ settings_rest) served.leaves
-          ∙ (append_assoc (settings_of (taken_forms (counted t ∷ earlier))) (drop 15 lent_settings) settings_rest
-          ∙ ap (λ (rest : List ℕ). settings_of (taken_forms (counted t ∷ earlier)) ++ rest) rest-joins))
+          ∙ (append_assoc (settings_of (taken_forms setup (counted t ∷ earlier))) (drop 15 lent_settings) settings_rest
+          ∙ ap (λ (rest : List ℕ). settings_of (taken_forms setup (counted t ∷ earlier)) ++ rest) rest-joins))
 
       -- soundness is kept by the rules
       state-after : sound (step call kept).state ≡ true
@@ -308,8 +327,8 @@ module _ (setup : Setup) (store settings : List ℕ) (start : 15 ≤ length sett
       sound-after =
           let left : After Transacted = transacted_by n m t kept in
           let size : layout.size ≤ length left.settings =
-          rw (ap (λ (l : After Transacted). length l.settings) applied-is ∙ (ap length served.leaves ∙ length-append (settings_of (taken_forms (counted t ∷ earlier))) (drop 15 lent_settings)))
-          (omega (arith, settings-size (taken_forms (counted t ∷ earlier)))) in
+          rw (ap (λ (l : After Transacted). length l.settings) applied-is ∙ (ap length served.leaves ∙ length-append (settings_of (taken_forms setup (counted t ∷ earlier))) (drop 15 lent_settings)))
+          (omega (arith, settings-size (taken_forms setup (counted t ∷ earlier)))) in
           sound-front left.settings settings_rest size
           ∙ (every-transaction kept.state lent_store lent_settings t r.counts.formed).settings_stay_sound lent-is-sound
 
@@ -324,6 +343,7 @@ module _ (setup : Setup) (store settings : List ℕ) (start : 15 ≤ length sett
                 subst (λ (k : Kept). Counts k.state.account (so_far (roles_back setup (counted t ∷ earlier))) (done_back (roles_back setup (counted t ∷ earlier))) (total (counted t ∷ earlier))) (sym same)
                 (subst (λ (h : List (List ℕ)). Counts left.result.state.account h (done_back (roles_back setup (counted t ∷ earlier))) (total (counted t ∷ earlier))) (sym held-are) served.follows.counts-are);
             maximum-is = ap (λ (k : Kept). k.state.maximum) same ∙ r.maximum-is;
+            check-is = ap (λ (k : Kept). k.state.check) same ∙ r.check-is;
             state_is_sound = state-after;
             store_length = ap (λ (k : Kept). length k.store) same ∙ (length_front kept.store d.store n served.follows.holds.size_is ∙ r.store_length);
             stored =

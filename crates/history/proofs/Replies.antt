@@ -34,7 +34,7 @@ module _ (setup : Setup) (store settings : List ℕ) (start : 15 ≤ length sett
   back = roles_back setup (reverse entries)
 
   abbrev role : Role
-  role = role_of setup (is_mac_kept (reverse entries)) t
+  role = role_of setup (is_mac_kept setup (reverse entries)) t
 
   newest-line : get_or (lines_of setup (entries ++ counted t ∷ [])) (total entries) nowhere ≡ line_of (reply_at setup (reverse entries) t).answer
   newest-line =

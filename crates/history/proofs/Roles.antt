@@ -10,16 +10,20 @@ use lib.ListN.{length}
 use borrow.Author.Tests.{eqb-true, eqb-false, ne_eqb}
 use Rattle.prelude.specs.Choice.{when◌then◌else◌}
 use Rattle.prelude.proofs.Tests.{if-cases}
-use Rattle.record.specs.Transaction.{Transaction, transaction}
+use Rattle.record.specs.Transaction.{Transaction}
 use Rattle.translator.specs.Command.{has_both_flags}
 use Rattle.history.specs.Lines.{line_of, flushed, is_counted}
 use Rattle.history.specs.Packets.{total_of}
 use Rattle.history.specs.Reading.{Entry, counted, total, Setup, is_fragment}
 use Rattle.history.specs.Settings.{enable_answer, is_mac_kept}
-use Rattle.history.specs.Runs.{Role, begins, goes_on, ends, passes, command_answer, role_of, roles_back, so_far, last_answer}
+use Rattle.history.specs.Runs.{Role, begins, goes_on, ends, passes, command_answer, command_role, role_of, roles_back, so_far, last_answer}
 use Rattle.history.specs.Replies.{last_reply, reply_on}
 use Rattle.history.specs.Partition.{line_from, line_at}
-use Rattle.history.proofs.Cutting.{Alone, of-3, of-7, of-8, of-9, of-10, of-11, IsRole, AreRoles}
+use Rattle.history.proofs.Cutting.{Alone, of-3, of-7, of-8, of-9, of-10, of-11, of-17, IsRole, AreRoles}
+
+-- a transaction with another command
+abbrev pub with_command : ℕ → Transaction → Transaction
+with_command command t = record { address = t.address; command = command; bytes = t.bytes; code = t.code; link_up = t.link_up }
 
 -- each of the commands, or another
 pub by-command : (P : ℕ → Type 0) → P 0x84 → P 0x04 → P 0x44 → P 0xC4 → P 0xCA
@@ -35,14 +39,14 @@ by-command P p₁ p₂ p₃ p₄ p₅ other c =
     by-test n p q = by_equal n p q (eqb c n) refl
 
 -- a command that is none of those
-pub unknown-role : (setup : Setup) (mac_kept : Bool) (c : ℕ) (bytes : List ℕ) (link_up : Bool)
+pub unknown-role : (setup : Setup) (mac_kept : Bool) (c : ℕ) (t : Transaction)
     → (c ≡ 0x84 → ⊥) → (c ≡ 0x04 → ⊥) → (c ≡ 0x44 → ⊥) → (c ≡ 0xC4 → ⊥) → (c ≡ 0xCA → ⊥)
-    → role_of setup mac_kept (transaction c bytes link_up) ≡ (when has_both_flags c then ends flushed 7 else passes 7)
-unfolding role_of is_fragment command_answer has_both_flags when◌then◌else◌
-unknown-role setup mac_kept c bytes link_up n₁ n₂ n₃ n₄ n₅ = rw (ne_eqb _ _ n₁, ne_eqb _ _ n₂, ne_eqb _ _ n₃, ne_eqb _ _ n₄, ne_eqb _ _ n₅)
+    → command_role setup mac_kept (with_command c t) ≡ (when has_both_flags c then ends flushed 7 else passes 7)
+unfolding command_role is_fragment command_answer has_both_flags when◌then◌else◌
+unknown-role setup mac_kept c t n₁ n₂ n₃ n₄ n₅ = rw (ne_eqb _ _ n₁, ne_eqb _ _ n₂, ne_eqb _ _ n₃, ne_eqb _ _ n₄, ne_eqb _ _ n₅)
 
 -- the answers of what stands alone
-ruleset stands = (of-3, of-7, of-8, of-9, of-10, of-11)
+ruleset stands = (of-3, of-7, of-8, of-9, of-10, of-11, of-17)
 
 command-stands : (mac_kept : Bool) (t : Transaction) → Alone (command_answer mac_kept t)
 unfolding command_answer enable_answer
@@ -52,15 +56,16 @@ command-stands mac_kept t =
     (λ _. search stands)
 
 is-role : (setup : Setup) (mac_kept : Bool) (t : Transaction) → IsRole (role_of setup mac_kept t)
-unfolding role_of
+unfolding role_of command_role
 is-role setup mac_kept t =
-    if-cases IsRole _ _ _
+    if-cases IsRole _ _ _ (λ _. search stands)
+    (λ _. if-cases IsRole _ _ _
     (λ _. if-cases IsRole _ _ _ (λ _. search stands) (λ _. if-cases IsRole _ _ _ (λ _. search stands) (λ _. search stands)))
-    (λ _. if-cases IsRole _ _ _ (λ _. command-stands mac_kept t) (λ _. command-stands mac_kept t))
+    (λ _. if-cases IsRole _ _ _ (λ _. command-stands mac_kept t) (λ _. command-stands mac_kept t)))
 
 pub are-roles : (setup : Setup) (earlier : List Entry) → AreRoles (roles_back setup earlier)
 are-roles setup [] = tt
-are-roles setup (counted t ∷ earlier) = (is-role setup (is_mac_kept earlier) t, are-roles setup earlier)
+are-roles setup (counted t ∷ earlier) = (is-role setup (is_mac_kept setup earlier) t, are-roles setup earlier)
 
 pub are-reversed : (list more : List Role) → AreRoles list → AreRoles more → AreRoles (reverse_aux list more)
 are-reversed [] more i j = j
@@ -87,6 +92,7 @@ alone-counted _ of-8 = refl
 alone-counted _ of-9 = refl
 alone-counted _ of-10 = refl
 alone-counted _ of-11 = refl
+alone-counted _ of-17 = refl
 
 reply-counted : (role : Role) (held : List (List ℕ)) → IsRole role → is_counted (reply_on role held).answer ≡ true
 unfolding last_reply is_counted
@@ -99,8 +105,8 @@ reply-counted (ends fate answer) held i = alone-counted answer i
 reply-counted (passes answer) held i = alone-counted answer i
 
 pub answer-counted : (setup : Setup) (earlier : List Entry) (t : Transaction)
-    → is_counted (reply_on (role_of setup (is_mac_kept earlier) t) (so_far (roles_back setup earlier))).answer ≡ true
-answer-counted setup earlier t = reply-counted (role_of setup (is_mac_kept earlier) t) (so_far (roles_back setup earlier)) (is-role setup (is_mac_kept earlier) t)
+    → is_counted (reply_on (role_of setup (is_mac_kept setup earlier) t) (so_far (roles_back setup earlier))).answer ≡ true
+answer-counted setup earlier t = reply-counted (role_of setup (is_mac_kept setup earlier) t) (so_far (roles_back setup earlier)) (is-role setup (is_mac_kept setup earlier) t)
 
 newest-line : (role : Role) (held : List (List ℕ)) (earlier : List Role) → so_far earlier ≡ held → line_at earlier role [] ≡ line_of (reply_on role held).answer
 unfolding last_reply

@@ -18,8 +18,8 @@ use Rattle.std.specs.Prelude.{Ok, Err}
 use Rattle.settings.specs.declared.enable.Refusal.TheVariants as refusal
 use Rattle.settings.specs.Layout as layout
 use Rattle.settings.specs.Enable as enable
-use Rattle.history.specs.Reading.{Entry, counted, is_receive_enable}
-use Rattle.history.specs.Settings.{is_short_form, is_long_form, control_of, has_cbdm, is_control_allowed, sets_mac, sets_address, is_kept, newest, settings_of, enable_answer, taken_forms, is_mac_kept, has_mac_form, MacIsKept}
+use Rattle.history.specs.Reading.{Entry, counted, Setup, is_code_bad, is_receive_enable}
+use Rattle.history.specs.Settings.{is_short_form, is_long_form, control_of, has_cbdm, is_control_allowed, sets_mac, sets_address, is_kept, newest, settings_of, enable_answer, is_form, taken_forms, is_mac_kept, has_mac_form, MacIsKept}
 
 -- what the forms leave, by name
 abbrev as_settings : List (List ℕ) → layout.Settings
@@ -215,10 +215,32 @@ pub fresh-read : (settings : List ℕ) → 15 ≤ length settings → (enable.fr
 unfolding enable.freshened layout.with_settings when◌then◌else◌
 fresh-read settings room = rw (le-ltb (length settings) 15 room)
 
--- any other command takes no form
-pub other-forms : (t : Transaction) (earlier : List Entry) → (t.command ≡ 0xCA → ⊥) → taken_forms (counted t ∷ earlier) ≡ taken_forms earlier
-unfolding when◌then◌else◌
-other-forms t earlier n = rw (ne_eqb t.command 0xCA n)
+-- what has a bad code is no form
+bad-code-is-none : (setup : Setup) (t : Transaction) → is_code_bad setup t ≡ true → is_form setup t ≡ false
+unfolding is_form
+bad-code-is-none setup t bad = if-cases (λ (b : Bool). b ≡ false) _ _ _ (λ _. ap not bad) (λ _. refl)
+
+-- and what has none is one where it is a Receive Enable
+pub right-code-forms : (setup : Setup) (t : Transaction) → is_code_bad setup t ≡ false → is_form setup t ≡ is_receive_enable t.command
+unfolding is_form when◌then◌else◌
+right-code-forms setup t right = rw right (by-test (is_receive_enable t.command))
+  where
+    by-test : (b : Bool) → (b and true) ≡ b
+    by-test true = refl
+    by-test false = refl
+
+-- a transaction that is no form changes nothing
+module _ (setup : Setup) (t : Transaction) (earlier : List Entry) where
+  no-form : is_form setup t ≡ false → taken_forms setup (counted t ∷ earlier) ≡ taken_forms setup earlier
+  unfolding when◌then◌else◌
+  no-form n = rw n
+
+  pub other-forms : (t.command ≡ 0xCA → ⊥) → taken_forms setup (counted t ∷ earlier) ≡ taken_forms setup earlier
+  unfolding is_form
+  other-forms n = no-form (if-false _ _ _ (ne_eqb t.command 0xCA n))
+
+  pub bad-code-forms : is_code_bad setup t ≡ true → taken_forms setup (counted t ∷ earlier) ≡ taken_forms setup earlier
+  bad-code-forms bad = no-form (bad-code-is-none setup t bad)
 
 kept-in-choice : (sets : List ℕ → Bool) (t : Bool) (form : List ℕ) (forms : List (List ℕ))
     → is_kept sets (when t then form ∷ forms else forms) ≡ (when t then (when sets form then true else is_kept sets forms) else is_kept sets forms)
@@ -228,10 +250,10 @@ kept-in-choice sets false form forms = refl
 
 pub mac-is-kept : MacIsKept
 unfolding sets_mac enable_answer when◌then◌else◌
-mac-is-kept [] = refl
-mac-is-kept (counted t ∷ earlier) =
-    kept-in-choice sets_mac (is_receive_enable t.command and eqb (enable_answer (is_mac_kept earlier) t.bytes) 11) t.bytes (taken_forms earlier)
-    ∙ rw (mac-is-kept earlier) (by_tests (is_receive_enable t.command) (is_short_form t.bytes) (is_long_form t.bytes) (is_control_allowed (control_of t.bytes)) (has_cbdm t.bytes) (has_mac_form earlier) (short-not-long t.bytes))
+mac-is-kept setup [] = refl
+mac-is-kept setup (counted t ∷ earlier) =
+    kept-in-choice sets_mac (is_form setup t and eqb (enable_answer (is_mac_kept setup earlier) t.bytes) 11) t.bytes (taken_forms setup earlier)
+    ∙ rw (mac-is-kept setup earlier) (by_tests (is_form setup t) (is_short_form t.bytes) (is_long_form t.bytes) (is_control_allowed (control_of t.bytes)) (has_cbdm t.bytes) (has_mac_form setup earlier) (short-not-long t.bytes))
   where
     by_tests : (command short long allowed cbdm mac : Bool) → (short ≡ true → long ≡ false)
         → (when command and eqb (when not (short or long) then 8 else when not allowed then 9 else when cbdm and short and not mac then 10 else 11) 11 then (when long and cbdm then true else mac) else mac)

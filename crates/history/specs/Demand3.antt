@@ -1,5 +1,5 @@
 -- Demand 3: after any calls from a fresh start, what the caller keeps and what every call replies are worked out from the list alone, and the list from the calls and the sizes of the buffers (manual 8.9).
-use Rattle.std.specs.Prelude.{ℕ, ◌≤◌, true, not, List, [], ◌∷◌, ◌++◌, reverse, ◌≡◌, eqb, length, get_or, take, drop}
+use Rattle.std.specs.Prelude.{ℕ, ◌≤◌, Bool, true, not, List, [], ◌∷◌, ◌++◌, reverse, ◌≡◌, eqb, length, get_or, take, drop}
 use Rattle.prelude.specs.Choice.{when◌then◌else◌}
 use Rattle.record.specs.Transaction.{Transaction}
 use Rattle.state.specs.Sound.{sound}
@@ -20,8 +20,9 @@ use Rattle.history.specs.Calls.{Call, Kept, reply_of, after, entries_by, setting
 pub record Agrees (setup : Setup) (settings : List ℕ) (entries : List Entry) (kept : Kept) : Type 0 where
   pub account_agrees : kept.state.account ≡ account_for setup entries
   pub maximum_stays : kept.state.maximum ≡ setup.maximum
+  pub check_stays : kept.state.check ≡ (when setup.check then 1 else 0)
   -- all bytes of the settings, and those past them as they were
-  pub settings_agree : kept.settings ≡ settings_of (taken_forms (reverse entries)) ++ drop settings_needed settings
+  pub settings_agree : kept.settings ≡ settings_of (taken_forms setup (reverse entries)) ++ drop settings_needed settings
   -- the open packet lies at the start of the store
   pub open_packet_agrees : (let open_packet : List ℕ = compared_from 0 (open_pieces setup entries) in take (length open_packet) kept.store ≡ open_packet)
   pub sent_agree : kept.sent ≡ packets_sent (items_of setup entries)
@@ -45,18 +46,18 @@ pub record Replies (setup : Setup) (store_size settings_size : ℕ) (entries : L
       is_counted (reply_of store_lent settings_lent t kept).answer ≡ true
       → get_or (lines_of setup (entries ++ counted t ∷ [])) (total entries) nowhere ≡ line_of (reply_of store_lent settings_lent t kept).answer
 
--- a fresh state, fresh settings, any store, and nothing sent (manual 1.2, 5.4)
-abbrev pub fresh : (maximum : ℕ) (store settings : List ℕ) → Kept
-fresh maximum store settings = record { state = (made maximum).state; store = store; settings = (freshened settings).settings; sent = [] }
+-- a fresh state with the check on or off, fresh settings, any store, and nothing sent (manual 1.2, 5.4)
+abbrev pub fresh : (maximum : ℕ) (check : Bool) (store settings : List ℕ) → Kept
+fresh maximum check store settings = record { state = (made maximum check).state; store = store; settings = (freshened settings).settings; sent = [] }
 
 -- a settings buffer of fewer bytes is rejected by the call that writes fresh settings, so nothing starts (manual 5.4)
-pub record Demand3For (maximum : ℕ) (store settings : List ℕ) (calls : List Call) : Type 0 where
-  pub agrees : Agrees (setup_for maximum) settings (entries_by calls (fresh maximum store settings)) (after calls (fresh maximum store settings))
+pub record Demand3For (maximum : ℕ) (check : Bool) (store settings : List ℕ) (calls : List Call) : Type 0 where
+  pub agrees : Agrees (setup_for maximum check) settings (entries_by calls (fresh maximum check store settings)) (after calls (fresh maximum check store settings))
   -- the list, from the calls and the sizes of the buffers alone
-  pub list_is : entries_by calls (fresh maximum store settings) ≡ take most_counted (with_room (length store) (length settings) calls)
+  pub list_is : entries_by calls (fresh maximum check store settings) ≡ take most_counted (with_room (length store) (length settings) calls)
   pub replies :
       (store_lent settings_lent : ℕ) (t : Transaction)
-      → Replies (setup_for maximum) (length store) (length settings) (entries_by calls (fresh maximum store settings)) (after calls (fresh maximum store settings)) store_lent settings_lent t
+      → Replies (setup_for maximum check) (length store) (length settings) (entries_by calls (fresh maximum check store settings)) (after calls (fresh maximum check store settings)) store_lent settings_lent t
 
 abbrev pub Demand3 : Type 0
-Demand3 = (maximum : ℕ) (store settings : List ℕ) → settings_needed ≤ length settings → (calls : List Call) → Demand3For maximum store settings calls
+Demand3 = (maximum : ℕ) (check : Bool) (store settings : List ℕ) → settings_needed ≤ length settings → (calls : List Call) → Demand3For maximum check store settings calls

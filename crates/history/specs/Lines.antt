@@ -4,11 +4,11 @@ use Rattle.prelude.specs.Choice.{when◌then◌else◌}
 
 -- the rows of the grid (manual 8.2)
 pub data Fate : Type 0 where
-  sent superseded flushed broken over short linkdown aborted badlength : Fate
+  sent superseded flushed broken over short linkdown aborted badlength badcheck : Fate
 
 -- in the grid's order (manual 8.2)
 abbrev pub fates : List Fate
-fates = sent ∷ superseded ∷ flushed ∷ broken ∷ over ∷ short ∷ linkdown ∷ aborted ∷ badlength ∷ []
+fates = sent ∷ superseded ∷ flushed ∷ broken ∷ over ∷ short ∷ linkdown ∷ aborted ∷ badlength ∷ badcheck ∷ []
 
 abbrev pub row_of : Fate → ℕ
 row_of sent = 0
@@ -20,6 +20,7 @@ row_of short = 5
 row_of linkdown = 6
 row_of aborted = 7
 row_of badlength = 8
+row_of badcheck = 9
 
 -- where a transaction stands: in a row, beside the grid, or in no line (manual 8.5)
 pub data Line : Type 0 where
@@ -33,10 +34,10 @@ lines = map row fates ++ (opened ∷ taken ∷ refused ∷ [])
 -- two lines are one where they have one number (manual 8.5)
 abbrev pub line_number : Line → ℕ
 line_number (row fate) = row_of fate
-line_number opened = 9
-line_number taken = 10
-line_number refused = 11
-line_number nowhere = 12
+line_number opened = 10
+line_number taken = 11
+line_number refused = 12
+line_number nowhere = 13
 
 abbrev pub is_line : Line → Line → Bool
 is_line line other = eqb (line_number line) (line_number other)
@@ -45,11 +46,12 @@ is_line line other = eqb (line_number line) (line_number other)
 unfoldable pub in_line : Line → ℕ → Line → ℕ
 in_line line count asked = when is_line line asked then count else 0
 
--- the lines of the answers 0 to 11 (manual 8.3)
+-- the lines of the answers 0 to 17; those from 12 to 16 stand in none (manual 8.3)
 abbrev pub answer_lines : List Line
 answer_lines =
     opened ∷ row sent ∷ row aborted ∷ row badlength ∷ row over ∷ row short ∷ row linkdown
-    ∷ refused ∷ refused ∷ refused ∷ refused ∷ taken ∷ []
+    ∷ refused ∷ refused ∷ refused ∷ refused ∷ taken
+    ∷ nowhere ∷ nowhere ∷ nowhere ∷ nowhere ∷ nowhere ∷ row badcheck ∷ []
 
 abbrev pub line_of : (answer : ℕ) → Line
 line_of answer = get_or answer_lines answer nowhere

@@ -18,7 +18,7 @@ moved_to to nowhere = nowhere
 
 -- where a transaction brings the open packet: to the row in which it ends, or it stays open (manual 8.4)
 abbrev pub open_goes_to : Setup → List Entry → Transaction → Line
-open_goes_to setup entries t = (run_from (open_pieces setup entries) (role_of setup (is_mac_kept (reverse entries)) t ∷ [])).line
+open_goes_to setup entries t = (run_from (open_pieces setup entries) (role_of setup (is_mac_kept setup (reverse entries)) t ∷ [])).line
 
 -- all places of the open packet go to one line, every other place keeps its own, and the newest stands in the line of its answer (manual 8.3, 8.4)
 abbrev pub LinesStay : Type 0

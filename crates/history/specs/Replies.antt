@@ -30,4 +30,4 @@ reply_on (passes answer) pieces = answered answer
 
 -- what stands earlier is given newest first (manual 2.2)
 abbrev pub reply_at : Setup → (earlier : List Entry) → Transaction → Reply
-reply_at setup earlier t = reply_on (role_of setup (is_mac_kept earlier) t) (so_far (roles_back setup earlier))
+reply_at setup earlier t = reply_on (role_of setup (is_mac_kept setup earlier) t) (so_far (roles_back setup earlier))

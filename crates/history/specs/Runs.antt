@@ -6,7 +6,7 @@ use Rattle.state.specs.declared.Account.{Account}
 use Rattle.state.specs.Account.{besides, account_of}
 use Rattle.history.specs.Lines.{Fate, superseded, flushed, broken, sent, fates, Line, row, opened, taken, refused, is_line, in_line, line_of, Column, packets, fragments, bytes, grid_of}
 use Rattle.history.specs.Packets.{concatenated, total_of, largest_total, smallest_total, with_fill}
-use Rattle.history.specs.Reading.{Entry, counted, total, Setup, has_f, has_l, is_fragment, is_length_allowed, is_receive_enable}
+use Rattle.history.specs.Reading.{Entry, counted, total, Setup, has_f, has_l, is_fragment, is_length_allowed, is_code_bad, is_receive_enable}
 use Rattle.history.specs.Settings.{enable_answer, is_mac_kept}
 
 -- what a transaction is to the runs: an allowed fragment that begins one or goes on with one, Last or not; or, with its answer, one that ends the run it meets or one that a run passes over (manual 8.9)
@@ -19,9 +19,9 @@ pub data Role : Type 0 where
 unfoldable pub command_answer : (mac_kept : Bool) → Transaction → ℕ
 command_answer mac_kept t = when is_receive_enable t.command then enable_answer mac_kept t.bytes else 7
 
--- a fragment of a bad length breaks, a command with F and L flushes, any other passes (manual 3.4, 3.5)
-unfoldable pub role_of : Setup → (mac_kept : Bool) → Transaction → Role
-role_of setup mac_kept t =
+-- by its command: a fragment of a bad length breaks, a command with F and L flushes, any other passes (manual 3.4, 3.5)
+unfoldable pub command_role : Setup → (mac_kept : Bool) → Transaction → Role
+command_role setup mac_kept t =
     when is_fragment t.command then
     (when not (is_length_allowed setup t.bytes) then ends broken 3 else
     when has_f t.command then begins (has_l t.command) t.bytes t.link_up else
@@ -29,10 +29,14 @@ role_of setup mac_kept t =
     else when has_f t.command and has_l t.command then ends flushed (command_answer mac_kept t)
     else passes (command_answer mac_kept t)
 
+-- a bad code breaks, whatever the command (manual 3.7, 10.5)
+unfoldable pub role_of : Setup → (mac_kept : Bool) → Transaction → Role
+role_of setup mac_kept t = when is_code_bad setup t then ends broken 17 else command_role setup mac_kept t
+
 -- the roles of entries newest first, and of the list (manual 8.9)
 abbrev pub roles_back : Setup → (earlier : List Entry) → List Role
 roles_back setup [] = []
-roles_back setup (counted t ∷ earlier) = role_of setup (is_mac_kept earlier) t ∷ roles_back setup earlier
+roles_back setup (counted t ∷ earlier) = role_of setup (is_mac_kept setup earlier) t ∷ roles_back setup earlier
 
 abbrev pub roles : Setup → List Entry → List Role
 roles setup entries = reverse (roles_back setup (reverse entries))

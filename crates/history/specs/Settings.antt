@@ -2,7 +2,8 @@
 use Rattle.std.specs.Prelude.{ℕ, ◌+◌, Bool, true, false, not, List, [], ◌∷◌, ◌++◌, ◌≡◌, eqb, length, get_or, take, drop, replicate}
 use Rattle.prelude.specs.Bits.{bits, is_set}
 use Rattle.prelude.specs.Choice.{when◌then◌else◌, ◌and◌, ◌or◌}
-use Rattle.history.specs.Reading.{Entry, counted, is_receive_enable}
+use Rattle.record.specs.Transaction.{Transaction}
+use Rattle.history.specs.Reading.{Entry, counted, Setup, is_code_bad, is_receive_enable}
 
 -- the two forms of Receive Enable (manual 5.2)
 abbrev pub is_short_form : (form : List ℕ) → Bool
@@ -55,22 +56,26 @@ enable_answer mac_kept form =
     when has_cbdm form and is_short_form form and not mac_kept then 10 else
     11
 
--- of entries, newest first: the forms that were taken, newest first, and whether a MAC is kept (manual 5.5)
-abbrev pub taken_forms : (earlier : List Entry) → List (List ℕ)
-taken_forms [] = []
-taken_forms (counted t ∷ earlier) =
-    when is_receive_enable t.command and eqb (enable_answer (is_kept sets_mac (taken_forms earlier)) t.bytes) 11 then t.bytes ∷ taken_forms earlier
-    else taken_forms earlier
+-- a form came, and its code was not bad (manual 5.2, 10.5)
+unfoldable pub is_form : Setup → Transaction → Bool
+is_form setup t = is_receive_enable t.command and not (is_code_bad setup t)
 
-abbrev pub is_mac_kept : (earlier : List Entry) → Bool
-is_mac_kept earlier = is_kept sets_mac (taken_forms earlier)
+-- of entries, newest first: the forms that were taken, newest first, and whether a MAC is kept (manual 5.5)
+abbrev pub taken_forms : Setup → (earlier : List Entry) → List (List ℕ)
+taken_forms setup [] = []
+taken_forms setup (counted t ∷ earlier) =
+    when is_form setup t and eqb (enable_answer (is_kept sets_mac (taken_forms setup earlier)) t.bytes) 11 then t.bytes ∷ taken_forms setup earlier
+    else taken_forms setup earlier
+
+abbrev pub is_mac_kept : Setup → (earlier : List Entry) → Bool
+is_mac_kept setup earlier = is_kept sets_mac (taken_forms setup earlier)
 
 -- a long form with CBDM and an allowed control byte stands in the list (manual 8.9)
-abbrev pub has_mac_form : List Entry → Bool
-has_mac_form [] = false
-has_mac_form (counted t ∷ earlier) =
-    (is_receive_enable t.command and is_long_form t.bytes and has_cbdm t.bytes and is_control_allowed (control_of t.bytes)) or has_mac_form earlier
+abbrev pub has_mac_form : Setup → List Entry → Bool
+has_mac_form setup [] = false
+has_mac_form setup (counted t ∷ earlier) =
+    (is_form setup t and is_long_form t.bytes and has_cbdm t.bytes and is_control_allowed (control_of t.bytes)) or has_mac_form setup earlier
 
 -- exactly then a MAC is kept (manual 8.9)
 abbrev pub MacIsKept : Type 0
-MacIsKept = (earlier : List Entry) → is_mac_kept earlier ≡ has_mac_form earlier
+MacIsKept = (setup : Setup) (earlier : List Entry) → is_mac_kept setup earlier ≡ has_mac_form setup earlier
