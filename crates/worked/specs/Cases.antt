@@ -1,5 +1,6 @@
--- What a worked example asks, and when it holds (manual 10).
-use Rattle.std.specs.Prelude.{ℕ, zero, suc, ◌+◌, ◌%◌, Bool, true, false, List, [], ◌∷◌, ◌++◌, ◌≡◌, eqb, length, take, replicate}
+-- What a worked example asks, and when it holds (manual W).
+use Rattle.std.specs.Prelude.{ℕ, zero, suc, ◌+◌, ◌-◌, ◌%◌, Bool, true, false, List, [], ◌∷◌, ◌++◌, ◌≡◌, eqb, length, take, replicate}
+use lib.Bits.{bit_xor}
 use Rattle.prelude.specs.After.{After}
 use Rattle.prelude.specs.Choice.{when◌then◌else◌}
 use Rattle.setlink.specs.declared.Decision.{Decision}
@@ -11,12 +12,13 @@ use Rattle.status.specs.Block.{written, block_back, parsed, fields_back}
 use Rattle.settings.specs.Enable.{freshened}
 use Rattle.address.specs.declared.Address.TheVariants.{Mac, Ipv4}
 use Rattle.address.specs.Address.{in_force}
+use Rattle.pec.specs.Division.{remainder}
 use Rattle.record.specs.Records.{records_of, records_in}
-use Rattle.record.specs.Transaction.{Transaction, transaction}
+use Rattle.record.specs.Transaction.{Transaction, attributes, transaction, unchecked}
 use Rattle.state.specs.declared.State.{State}
-use Rattle.state.specs.Account.{sent, superseded, flushed, broken, over, short, linkdown, aborted, badlength, besides, account_of}
+use Rattle.state.specs.Account.{sent, superseded, flushed, broken, over, short, linkdown, aborted, badlength, badcheck, besides, account_of}
 use Rattle.state.specs.Sound.{account_sound}
-use Rattle.state.specs.State.{with_account, made}
+use Rattle.state.specs.State.{check_on, check_off, setup_of, state_of, with_account, made}
 use Rattle.outcome.specs.Outcome.{number_of, sent_length_of}
 use Rattle.translator.specs.declared.Transacted.{Transacted}
 use Rattle.translator.specs.Transact.{transacted}
@@ -40,12 +42,36 @@ pattern from (suc n) = (from % 251 + 1) ∷ pattern (suc from) n
 
 abbrev pub patterned : ℕ → List Sends → List Transaction
 patterned from [] = []
-patterned from (s ∷ rest) = transaction s.command (pattern from s.size) s.link_up ∷ patterned (from + s.size) rest
+patterned from (s ∷ rest) = unchecked s.command (pattern from s.size) s.link_up ∷ patterned (from + s.size) rest
 
 -- Receive Enables with these data bytes (manual 5.2)
 abbrev pub enables : List (List ℕ) → List Transaction
 enables [] = []
-enables (form ∷ rest) = transaction 0xCA form true ∷ enables rest
+enables (form ∷ rest) = unchecked 0xCA form true ∷ enables rest
+
+-- the code that is right at address 0x40: the remainder of long division, over address, command, count and data (manual 10.2)
+abbrev pub right_code : (command : ℕ) → List ℕ → ℕ
+right_code command bytes = remainder (0x40 ∷ command ∷ length bytes ∷ bytes)
+
+-- a transaction to that address with this code; with the right one; with one that is wrong in its lowest bit (manual 10.4)
+abbrev pub with_code : (code : ℕ) → Transaction → Transaction
+with_code code t = transaction (attributes 0x40 t.command code t.link_up) t.bytes
+
+abbrev pub with_right_code : Transaction → Transaction
+with_right_code t = with_code (right_code t.command t.bytes) t
+
+abbrev pub with_wrong_code : Transaction → Transaction
+with_wrong_code t = with_code (bit_xor (right_code t.command t.bytes) 1) t
+
+-- the same of a command and its data, while the link is up
+abbrev pub coded : (command : ℕ) → List ℕ → (code : ℕ) → Transaction
+coded command bytes code = with_code code (unchecked command bytes true)
+
+abbrev pub right : (command : ℕ) → List ℕ → Transaction
+right command bytes = with_right_code (unchecked command bytes true)
+
+abbrev pub wrong : (command : ℕ) → List ℕ → Transaction
+wrong command bytes = with_wrong_code (unchecked command bytes true)
 
 -- an answer number, with the sent length or 0 (manual 2.1)
 abbrev pub Answer : Type 0
@@ -74,9 +100,9 @@ run_on state store settings (t ∷ rest) =
 abbrev pub unwritten : (size : ℕ) → List ℕ
 unwritten size = replicate size 0xFF
 
--- maximum 240, all fresh
+-- maximum 240, all fresh, the check off
 abbrev pub run : List Transaction → Run
-run = run_on (made 240).state (unwritten 1536) (freshened (replicate 15 0xFF)).settings
+run = run_on (made 240 false).state (unwritten 1536) (freshened (replicate 15 0xFF)).settings
 
 -- a row that has counted (manual 8.2)
 pub record Line : Type 0 where
@@ -90,22 +116,26 @@ unfoldable pub cells_in : List Line → ℕ → List ℕ
 cells_in [] row = 0 ∷ 0 ∷ 0 ∷ []
 cells_in (l ∷ rest) row = when eqb row l.row then l.cells else cells_in rest row
 
--- the state for a maximum in which only these rows have counted, and commands that were taken or refused; no packet is open (manual 8.5, 8.8)
+-- the state for a maximum in which only these rows have counted, and commands that were taken or refused; no packet is open, and the check is off (manual 8.5, 8.8)
 abbrev pub counting : (maximum : ℕ) → List Line → (taken refusals total : ℕ) → State
 counting maximum lines taken refusals total =
-    record {
-      account =
-          account_of
-          (cells_in lines sent ++ cells_in lines superseded ++ cells_in lines flushed ++ cells_in lines broken ++ cells_in lines over
-          ++ cells_in lines short ++ cells_in lines linkdown ++ cells_in lines aborted ++ cells_in lines badlength)
-          (besides 0 0 taken refusals total);
-      maximum = maximum;
-    }
+    state_of
+    (cells_in lines sent ++ cells_in lines superseded ++ cells_in lines flushed ++ cells_in lines broken ++ cells_in lines over
+    ++ cells_in lines short ++ cells_in lines linkdown ++ cells_in lines aborted ++ cells_in lines badlength ++ cells_in lines badcheck)
+    (besides 0 0 taken refusals total)
+    (setup_of maximum check_off)
 
 -- a state that has a packet open besides (manual 8.5)
 abbrev pub with_open : (fragments bytes : ℕ) → State → State
 with_open fragments bytes s =
     with_account s (account_of s.account.grid (besides fragments bytes s.account.beside.taken s.account.beside.refused s.account.beside.total))
+
+-- a state that has this number for the check, and with the check on (manual 10.1)
+abbrev pub with_check : (check : ℕ) → State → State
+with_check check s = state_of s.account.grid s.account.beside (setup_of s.maximum check)
+
+abbrev pub on : State → State
+on s = with_check check_on s
 
 -- a decision of Set Link where 0 was in force (manual 7.3)
 abbrev pub accepted : ℕ → Decision
@@ -126,18 +156,20 @@ pub data Case : Type 0 where
   rejected : State → (store_size : ℕ) → (settings : List ℕ) → (answer : ℕ) → Case
   -- transactions to a state and settings of these: the answers, and the state that they leave
   resumed : State → (settings : List ℕ) → List Sends → List Answer → State → Case
+  -- transactions with address and code to a state, fresh settings and a store with nothing written: the answers, the state that they leave, the bytes written at the start of the store, and the settings
+  checked : State → List Transaction → List Answer → State → (start settings : List ℕ) → Case
   -- whether the account of a state is sound, whatever the maximum
   account_is : (sound : Bool) → State → Case
-  -- a state made for a maximum: the answer, and the maximum that it has
-  maximum : (asked answer made : ℕ) → Case
+  -- a state made for a maximum, with the check on or off: the answer, and the maximum that it has
+  maximum : (asked : ℕ) → (check : Bool) → (answer made : ℕ) → Case
   -- the addresses in force, of settings and a Flash block
   addresses : (settings flash mac ipv4 : List ℕ) → Case
   link : (word : ℕ) → (host_present : Bool) → Media → Decision → Case
   -- status fields written: the answer with the bad field, and the block; and a block read: the answer with the bad field, and the fields
   writes : Fields → (answer field : ℕ) → (block : List ℕ) → Case
   reads : (block : List ℕ) → (answer field : ℕ) → Fields → Case
-  -- the records of a journal, written and read
-  journal : List Transaction → (bytes : List ℕ) → Case
+  -- the records of a journal, with the check on or off, written and read
+  journal : (check : Bool) → List Transaction → (bytes : List ℕ) → Case
 
 abbrev pub Holds : Case → Type 0
 Holds (answered asked expected) = (run (patterned 0 asked)).answers ≡ expected
@@ -150,8 +182,12 @@ Holds (rejected state store_size settings answer) =
 Holds (resumed state settings asked expected left) =
     ((run_on state (unwritten 1536) settings (patterned 0 asked)).answers ≡ expected)
     × ((run_on state (unwritten 1536) settings (patterned 0 asked)).state ≡ left)
+Holds (checked state transactions expected left start settings) =
+    run_on state (unwritten 1536) (freshened (replicate 15 0xFF)).settings transactions
+    ≡ record { answers = expected; state = left; store = start ++ unwritten (1536 - length start); settings = settings }
 Holds (account_is sound state) = account_sound state.account ≡ sound
-Holds (maximum asked answer is) = ((made asked).answer ≡ answer) × ((made asked).state ≡ counting is [] 0 0 0)
+Holds (maximum asked check answer is) =
+    ((made asked check).answer ≡ answer) × ((made asked check).state ≡ with_check (when check then 1 else 0) (counting is [] 0 0 0))
 Holds (addresses settings flash mac ipv4) =
     ((in_force Mac (record { ref_ptr = (0, 0); now = settings }) (record { ref_ptr = (1, 0); now = flash })).bytes ≡ mac)
     × ((in_force Ipv4 (record { ref_ptr = (0, 0); now = settings }) (record { ref_ptr = (1, 0); now = flash })).bytes ≡ ipv4)
@@ -160,8 +196,8 @@ Holds (writes fields answer field block) =
     ◌≡◌ {A = ℕ × ℕ × List ℕ} (status_number_of (written fields), bad_field_number (written fields), block_back fields) (answer, field, block)
 Holds (reads block answer field fields) =
     ◌≡◌ {A = ℕ × ℕ × Fields} (status_number_of (parsed block), bad_field_number (parsed block), fields_back block) (answer, field, fields)
-Holds (journal transactions bytes) =
-    (records_of transactions ≡ bytes) × (records_in bytes ≡ record { transactions = transactions; used = length bytes; bad_link = false })
+Holds (journal check transactions bytes) =
+    (records_of check transactions ≡ bytes) × (records_in check bytes ≡ record { transactions = transactions; used = length bytes; bad_link = false })
 
 abbrev pub AllHold : List Case → Type 0
 AllHold [] = Unit

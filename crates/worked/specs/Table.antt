@@ -1,12 +1,12 @@
--- The worked examples, one table under one statement: W1 to W13, and edges at which rules, code and history could be wrong alike.
--- Maximum 240, link up and everything fresh, unless said (manual 10.1, 10.2).
+-- The worked examples, one table under one statement: W1 to W13, C1 to C4, and edges at which rules, code and history could be wrong alike.
+-- Maximum 240, link up and everything fresh, the check off, unless said (manual W.1, W.2).
 use Rattle.std.specs.Prelude.{ℕ, ◌+◌, ◌^◌, Bool, true, false, List, [], ◌∷◌, map, ◌++◌, take, replicate}
 use Rattle.setlink.specs.declared.Media.TheVariants.{Copper, Fibre}
 use Rattle.status.specs.declared.Fields.{Fields}
-use Rattle.record.specs.Transaction.{transaction}
+use Rattle.record.specs.Transaction.{Transaction, attributes, transaction, unchecked}
 use Rattle.state.specs.declared.State.{State}
-use Rattle.state.specs.Account.{sent, superseded, flushed, broken, over, short, linkdown, aborted, badlength}
-use Rattle.worked.specs.Cases.{Case, answered, counted, stored, enabled, rejected, resumed, account_is, maximum, addresses, link, writes, reads, journal, AllHold, up, down, pattern, unwritten, line, counting, with_open, accepted, refused}
+use Rattle.state.specs.Account.{sent, superseded, flushed, broken, over, short, linkdown, aborted, badlength, badcheck}
+use Rattle.worked.specs.Cases.{Answer, Case, answered, counted, stored, enabled, rejected, resumed, checked, account_is, maximum, addresses, link, writes, reads, journal, AllHold, up, down, pattern, patterned, with_right_code, with_wrong_code, coded, right, wrong, unwritten, line, counting, with_open, with_check, on, accepted, refused}
 
 -- length 64, VLAN 0, decision 7 matched (manual 6.1)
 abbrev pub decision7 : Fields
@@ -41,6 +41,13 @@ unsound_state = counting 241 [] 0 0 0
 abbrev pub full_state : State
 full_state = counting 240 [] 4294967295 0 4294967295
 
+-- a fresh state with the check off, and with the check on (manual 8.8, 10.1)
+abbrev pub fresh_off : State
+fresh_off = counting 240 [] 0 0 0
+
+abbrev pub fresh_on : State
+fresh_on = on fresh_off
+
 -- a long form with CBDM, EN_ARP_RES and RCV_EN, and the settings that it leaves; a Flash block (manual 5.5, 5.8)
 abbrev pub long_form : List ℕ
 long_form = 0xC9 ∷ 0x02 ∷ 0x11 ∷ 0x22 ∷ 0x33 ∷ 0x44 ∷ 0x55 ∷ 10 ∷ 20 ∷ 30 ∷ 40 ∷ 0xA1 ∷ 0xA2 ∷ 0xA3 ∷ []
@@ -55,6 +62,10 @@ flash = 0x06 ∷ 0x77 ∷ 0x88 ∷ 0x99 ∷ 0xAA ∷ 0xBB ∷ 192 ∷ 168 ∷ 1 
 abbrev pub holding : (control kept : ℕ) → List ℕ
 holding control kept = control ∷ kept ∷ 0x02 ∷ 0x11 ∷ 0x22 ∷ 0x33 ∷ 0x44 ∷ 0x55 ∷ 10 ∷ 20 ∷ 30 ∷ 40 ∷ replicate 3 0
 
+-- to a fresh state with the check on, where the settings stay fresh (manual 10.1)
+abbrev pub while_on : List Transaction → List Answer → State → (start : List ℕ) → Case
+while_on transactions expected left start = checked fresh_on transactions expected (on left) start fresh_bytes
+
 -- answered 13 where all else is in order
 abbrev pub unsound : State → Case
 unsound state = rejected state 1536 fresh_bytes 13
@@ -62,7 +73,7 @@ unsound state = rejected state 1536 fresh_bytes 13
 abbrev pub unsound_settings : (settings : List ℕ) → Case
 unsound_settings settings = rejected (counting 240 [] 0 0 0) 1536 settings 13
 
--- manual 10.1
+-- manual W.1
 abbrev pub cases : List Case
 cases =
     -- W1, W2: the least packet that is sent, and one byte less
@@ -80,6 +91,14 @@ cases =
     -- W8: the link counts at the Last
     ∷ counted (up 0x84 20 ∷ down 0x44 20 ∷ []) ((0, 0) ∷ (6, 0) ∷ []) (counting 240 (line linkdown 1 2 40 ∷ []) 0 0 2)
     ∷ counted (down 0x84 20 ∷ up 0x44 20 ∷ []) ((0, 0) ∷ (1, 60) ∷ []) (counting 240 (line sent 1 2 40 ∷ []) 0 0 2)
+    -- C1: a middle fragment with a wrong code breaks the open packet, and nothing of it is written: the codes as numbers
+    ∷ while_on (coded 0x84 (pattern 0 20) 0xFE ∷ coded 0x04 (pattern 20 20) 0x2F ∷ coded 0x44 (pattern 40 20) 0xEC ∷ []) ((0, 0) ∷ (17, 0) ∷ (2, 0) ∷ []) (counting 240 (line broken 1 1 20 ∷ line aborted 0 1 20 ∷ line badcheck 0 1 0 ∷ []) 0 0 3) (pattern 0 20)
+    -- C2: a Receive Enable with a wrong code breaks it too and flushes nothing, and the settings stay fresh
+    ∷ while_on (right 0x84 (pattern 0 20) ∷ wrong 0xCA (0x41 ∷ []) ∷ right 0x44 (pattern 20 20) ∷ []) ((0, 0) ∷ (17, 0) ∷ (2, 0) ∷ []) (counting 240 (line broken 1 1 20 ∷ line aborted 0 1 20 ∷ line badcheck 0 1 0 ∷ []) 0 0 3) (pattern 0 20)
+    -- C3: a whole packet with a wrong code, none open
+    ∷ while_on (wrong 0xC4 (pattern 0 20) ∷ []) ((17, 0) ∷ []) (counting 240 (line badcheck 0 1 0 ∷ []) 0 0 1) []
+    -- C4: a long form with CBDM and a wrong code keeps no MAC, for a short form with CBDM behind it
+    ∷ while_on (wrong 0xCA (0xC1 ∷ pattern 0 13) ∷ right 0xCA (0xC1 ∷ []) ∷ []) ((17, 0) ∷ (10, 0) ∷ []) (counting 240 (line badcheck 0 1 0 ∷ []) 0 1 2) []
     -- W9 to W12: Set Link
     ∷ link 0x219 false Copper (accepted 0x219)
     ∷ link 0x109 false Copper (refused 0x0002)
@@ -90,7 +109,7 @@ cases =
     ∷ writes decision7 0 0 (0x40 ∷ 0x00 ∷ 0x01 ∷ 0x00 ∷ 0x00 ∷ 0x00 ∷ 0x70 ∷ 0x01 ∷ [])
     ∷ []
 
--- manual 10.2
+-- manual W.2
 abbrev pub further : List Case
 further =
     -- the length of a packet comes before the link: one byte too short, and one too long, while it is down
@@ -126,10 +145,13 @@ further =
     ∷ addresses (holding 0xC1 0x02) flash [] []
     ∷ addresses (take 14 long_form_left) flash [] []
     ∷ addresses long_form_left (take 9 flash) [] []
-    -- the largest fragment maximum, one more, and none
-    ∷ maximum 240 0 240
-    ∷ maximum 241 16 240
-    ∷ maximum 0 16 240
+    -- the largest fragment maximum, one more, and none; with the check on too
+    ∷ maximum 240 false 0 240
+    ∷ maximum 241 false 16 240
+    ∷ maximum 0 false 16 240
+    ∷ maximum 240 true 0 240
+    ∷ maximum 241 true 16 240
+    ∷ maximum 0 true 16 240
     -- a First while a packet is open
     ∷ counted (up 0x84 20 ∷ up 0xC4 20 ∷ []) ((0, 0) ∷ (1, 60) ∷ []) (counting 240 (line sent 1 1 20 ∷ line superseded 1 1 20 ∷ []) 0 0 2)
     -- a First of a bad length while a packet is open breaks it: without bytes, and with one byte too many
@@ -151,29 +173,83 @@ further =
     ∷ stored (up 0xC4 16 ∷ []) ((5, 0) ∷ []) (pattern 0 16 ++ unwritten 48)
     ∷ stored (up 0x84 20 ∷ down 0x44 20 ∷ []) ((0, 0) ∷ (6, 0) ∷ []) (pattern 0 40 ++ unwritten 24)
     ∷ stored (up 0x84 240 ∷ replicate 5 (up 0x04 240) ++ (up 0x44 97 ∷ [])) (replicate 6 (0, 0) ++ ((4, 0) ∷ [])) (pattern 0 1440 ++ unwritten 96)
-    -- the records of a journal, with the link up and down
-    ∷ journal (transaction 0xC4 (5 ∷ 6 ∷ []) true ∷ transaction 0xCA (0x41 ∷ []) false ∷ []) (0xC4 ∷ 1 ∷ 2 ∷ 5 ∷ 6 ∷ 0xCA ∷ 0 ∷ 1 ∷ 0x41 ∷ [])
+    -- the records of a journal, with the link up and down; with the check on too, whether a code is right or not
+    ∷ journal false (unchecked 0xC4 (5 ∷ 6 ∷ []) true ∷ unchecked 0xCA (0x41 ∷ []) false ∷ []) (0xC4 ∷ 1 ∷ 2 ∷ 5 ∷ 6 ∷ 0xCA ∷ 0 ∷ 1 ∷ 0x41 ∷ [])
+    ∷ journal
+    true
+    (transaction (attributes 0x40 0xC4 0x99 true) (5 ∷ 6 ∷ []) ∷ transaction (attributes 0x42 0xCA 0x17 false) (0x41 ∷ []) ∷ [])
+    (0x40 ∷ 0xC4 ∷ 1 ∷ 2 ∷ 5 ∷ 6 ∷ 0x99 ∷ 0x42 ∷ 0xCA ∷ 0 ∷ 1 ∷ 0x41 ∷ 0x17 ∷ [])
     ∷ []
 
--- sound states and settings that are taken, and each condition broken alone; those of the rows follow below (manual 5.7, 8.7, 8.8)
+-- the check byte: right codes, and wrong ones, answered 17 (manual 2.2, 3.7, 10.2, 10.4, 10.5)
+abbrev pub checks : List Case
+checks =
+    -- W1, W3 and W6 with the check on and right codes; of W1 the code as a number
+    while_on (coded 0xC4 (pattern 0 17) 0x97 ∷ []) ((1, 60) ∷ []) (counting 240 (line sent 1 1 17 ∷ []) 0 0 1) (pattern 0 17 ++ replicate 43 0)
+    ∷ while_on (map with_right_code (patterned 0 (up 0x84 240 ∷ replicate 5 (up 0x04 240) ++ (up 0x44 96 ∷ [])))) (replicate 6 (0, 0) ++ ((1, 1536) ∷ [])) (counting 240 (line sent 1 7 1536 ∷ []) 0 0 7) (pattern 0 1536)
+    ∷ while_on (map with_right_code (patterned 0 (up 0x84 20 ∷ up 0xCA 2 ∷ up 0x44 20 ∷ []))) ((0, 0) ∷ (8, 0) ∷ (2, 0) ∷ []) (counting 240 (line flushed 1 1 20 ∷ line aborted 0 1 20 ∷ []) 0 1 3) (pattern 0 20)
+    -- C1 with the right code, 0x2E, and C2 with the right one, 0x44
+    ∷ while_on (coded 0x84 (pattern 0 20) 0xFE ∷ coded 0x04 (pattern 20 20) 0x2E ∷ coded 0x44 (pattern 40 20) 0xEC ∷ []) ((0, 0) ∷ (0, 0) ∷ (1, 60) ∷ []) (counting 240 (line sent 1 3 60 ∷ []) 0 0 3) (pattern 0 60)
+    ∷ checked fresh_on (right 0x84 (pattern 0 20) ∷ coded 0xCA (0x41 ∷ []) 0x44 ∷ right 0x44 (pattern 20 20) ∷ []) ((0, 0) ∷ (11, 0) ∷ (2, 0) ∷ []) (on (counting 240 (line flushed 1 1 20 ∷ line aborted 0 1 20 ∷ []) 1 0 3)) (pattern 0 20) (0x41 ∷ replicate 14 0)
+    -- a First with a wrong code breaks the open packet and opens none
+    ∷ while_on (right 0x84 (pattern 0 20) ∷ wrong 0x84 (pattern 20 20) ∷ right 0x44 (pattern 40 20) ∷ []) ((0, 0) ∷ (17, 0) ∷ (2, 0) ∷ []) (counting 240 (line broken 1 1 20 ∷ line aborted 0 1 20 ∷ line badcheck 0 1 0 ∷ []) 0 0 3) (pattern 0 20)
+    -- an unknown command without F and L, which else ends nothing, breaks it too
+    ∷ while_on (right 0x84 (pattern 0 20) ∷ wrong 0x00 (pattern 20 3) ∷ right 0x44 (pattern 23 20) ∷ []) ((0, 0) ∷ (17, 0) ∷ (2, 0) ∷ []) (counting 240 (line broken 1 1 20 ∷ line aborted 0 1 20 ∷ line badcheck 0 1 0 ∷ []) 0 0 3) (pattern 0 20)
+    -- so do a Last, which else joins it, a whole packet, which else supersedes it, and an unknown command with F and L, which else flushes it
+    ∷ while_on (right 0x84 (pattern 0 20) ∷ wrong 0x44 (pattern 20 20) ∷ right 0x44 (pattern 40 20) ∷ []) ((0, 0) ∷ (17, 0) ∷ (2, 0) ∷ []) (counting 240 (line broken 1 1 20 ∷ line aborted 0 1 20 ∷ line badcheck 0 1 0 ∷ []) 0 0 3) (pattern 0 20)
+    ∷ while_on (right 0x84 (pattern 0 20) ∷ wrong 0xC4 (pattern 20 20) ∷ []) ((0, 0) ∷ (17, 0) ∷ []) (counting 240 (line broken 1 1 20 ∷ line badcheck 0 1 0 ∷ []) 0 0 2) (pattern 0 20)
+    ∷ while_on (right 0x84 (pattern 0 20) ∷ wrong 0xC0 (pattern 20 3) ∷ []) ((0, 0) ∷ (17, 0) ∷ []) (counting 240 (line broken 1 1 20 ∷ line badcheck 0 1 0 ∷ []) 0 0 2) (pattern 0 20)
+    -- 17 before 8, 9 and 10: Receive Enables of no form, with bit 6 zero, and with CBDM and no MAC kept
+    ∷ while_on (wrong 0xCA (0x41 ∷ 0x41 ∷ []) ∷ wrong 0xCA (0x01 ∷ []) ∷ wrong 0xCA (0xC1 ∷ []) ∷ []) ((17, 0) ∷ (17, 0) ∷ (17, 0) ∷ []) (counting 240 (line badcheck 0 3 0 ∷ []) 0 0 3) []
+    -- 17 before 3: a fragment without bytes, and one with a byte too many
+    ∷ while_on (wrong 0x04 [] ∷ wrong 0x04 (pattern 0 241) ∷ []) ((17, 0) ∷ (17, 0) ∷ []) (counting 240 (line badcheck 0 2 0 ∷ []) 0 0 2) []
+    -- 0x12, which is right at address 0x40, and not at address 0x42
+    ∷ while_on (coded 0xC4 (pattern 0 20) 0x12 ∷ transaction (attributes 0x42 0xC4 0x12 true) (pattern 0 20) ∷ []) ((1, 60) ∷ (17, 0) ∷ []) (counting 240 (line sent 1 1 20 ∷ line badcheck 0 1 0 ∷ []) 0 0 2) (pattern 0 20 ++ replicate 40 0)
+    -- address 0x41, which is another in its lowest bit alone: 0xAB is right, and 0x12 is not
+    ∷ while_on (transaction (attributes 0x41 0xC4 0xAB true) (pattern 0 20) ∷ transaction (attributes 0x41 0xC4 0x12 true) (pattern 0 20) ∷ []) ((1, 60) ∷ (17, 0) ∷ []) (counting 240 (line sent 1 1 20 ∷ line badcheck 0 1 0 ∷ []) 0 0 2) (pattern 0 20 ++ replicate 40 0)
+    -- with the check off neither code nor address is read
+    ∷ checked fresh_off (wrong 0xC4 (pattern 0 20) ∷ transaction (attributes 0x42 0xC4 0x12 true) (pattern 0 20) ∷ []) ((1, 60) ∷ (1, 60) ∷ []) (counting 240 (line sent 2 2 40 ∷ []) 0 0 2) (pattern 0 20 ++ replicate 40 0) fresh_bytes
+    -- the most data bytes that have a code, and one more; with the check off both are taken for what they are
+    ∷ while_on (right 0x80 (pattern 0 255) ∷ right 0x80 (pattern 255 256) ∷ []) ((7, 0) ∷ (17, 0) ∷ []) (counting 240 (line badcheck 0 1 0 ∷ []) 0 1 2) []
+    ∷ checked fresh_off (right 0x80 (pattern 0 255) ∷ right 0x80 (pattern 255 256) ∷ []) ((7, 0) ∷ (7, 0) ∷ []) (counting 240 [] 0 2 2) [] fresh_bytes
+    -- 17 before 3 and 6: a First of 256 bytes, which have no code, and a whole packet with a wrong code while the link is down
+    ∷ while_on (right 0x84 (pattern 0 256) ∷ with_wrong_code (unchecked 0xC4 (pattern 0 20) false) ∷ []) ((17, 0) ∷ (17, 0) ∷ []) (counting 240 (line badcheck 0 2 0 ∷ []) 0 0 2) []
+    -- 14 before 17: of two wrong codes the first is the last transaction that is counted
+    ∷ checked (on (counting 240 [] 4294967294 0 4294967294)) (wrong 0x84 (pattern 0 20) ∷ wrong 0x84 (pattern 20 20) ∷ []) ((17, 0) ∷ (14, 0) ∷ []) (on (counting 240 (line badcheck 0 1 0 ∷ []) 4294967294 0 4294967295)) [] fresh_bytes
+    -- address and code are zero in the fragment that is sent from here on, and the right code is 0x74: 17 where nothing else is wrong, and 14, 13 and 12 before it
+    ∷ while_on (patterned 0 (up 0x84 20 ∷ [])) ((17, 0) ∷ []) (counting 240 (line badcheck 0 1 0 ∷ []) 0 0 1) []
+    ∷ rejected (on full_state) 1536 fresh_bytes 14
+    ∷ rejected fresh_on 1536 unsound_bytes 13
+    ∷ rejected (on unsound_state) 1536 fresh_bytes 13
+    ∷ rejected fresh_on 1535 fresh_bytes 12
+    ∷ rejected fresh_on 1536 (replicate 14 0) 12
+    ∷ []
+
+-- sound states and settings that are taken, and each condition broken alone; those of the rows follow below (manual 5.7, 8.7, 8.8, 10.1)
 abbrev pub soundness : List Case
 soundness =
     -- two sound states that have counted: rows at their bounds and an open fragment of one byte; under maximum 32 a row with 240 bytes for its fragment and an open packet as long as it can be
     resumed
-    (with_open 1 1 (counting 240 (line sent 2 2 480 ∷ line aborted 0 2 480 ∷ line badlength 0 3 0 ∷ []) 4 5 17))
+    (with_open 1 1 (counting 240 (line sent 2 2 480 ∷ line aborted 0 2 480 ∷ line badlength 0 3 0 ∷ line badcheck 0 6 0 ∷ []) 4 5 23))
     fresh_bytes
     (up 0x84 20 ∷ [])
     ((0, 0) ∷ [])
-    (with_open 1 20 (counting 240 (line sent 2 2 480 ∷ line superseded 1 1 1 ∷ line aborted 0 2 480 ∷ line badlength 0 3 0 ∷ []) 4 5 18))
+    (with_open 1 20 (counting 240 (line sent 2 2 480 ∷ line superseded 1 1 1 ∷ line aborted 0 2 480 ∷ line badlength 0 3 0 ∷ line badcheck 0 6 0 ∷ []) 4 5 24))
     ∷ resumed (with_open 2 64 (counting 32 (line flushed 1 1 240 ∷ []) 0 0 3)) fresh_bytes (up 0x44 20 ∷ []) ((1, 84) ∷ []) (counting 32 (line sent 1 3 84 ∷ line flushed 1 1 240 ∷ []) 0 0 4)
-    -- the sum one below the total, and one above; a total past its limit
+    -- the sum one below the total, and one above; with badcheck alone; a total past its limit
     ∷ unsound (counting 240 (line sent 1 1 20 ∷ []) 0 0 2)
     ∷ unsound (counting 240 (line sent 1 1 20 ∷ []) 0 0 0)
+    ∷ unsound (counting 240 (line badcheck 0 1 0 ∷ []) 0 0 2)
+    ∷ unsound (counting 240 (line badcheck 0 1 0 ∷ []) 0 0 0)
     ∷ unsound (counting 240 [] 4294967296 0 4294967296)
-    -- packets in aborted and in badlength, bytes in badlength
+    -- packets in aborted, in badlength and in badcheck, bytes in badlength and in badcheck
     ∷ unsound (counting 240 (line aborted 1 1 20 ∷ []) 0 0 1)
     ∷ unsound (counting 240 (line badlength 1 1 0 ∷ []) 0 0 1)
+    ∷ unsound (counting 240 (line badcheck 1 1 0 ∷ []) 0 0 1)
     ∷ unsound (counting 240 (line badlength 0 1 1 ∷ []) 0 0 1)
+    ∷ unsound (counting 240 (line badcheck 0 1 1 ∷ []) 0 0 1)
+    -- and badcheck with neither, alone
+    ∷ resumed (counting 240 (line badcheck 0 1 0 ∷ []) 0 0 1) fresh_bytes (up 0xC4 20 ∷ []) ((1, 60) ∷ []) (counting 240 (line sent 1 1 20 ∷ line badcheck 0 1 0 ∷ []) 0 0 2)
     -- open: a fragment without bytes, two with one byte, a byte of no fragment, a fragment past the maximum
     ∷ unsound (with_open 1 0 (counting 240 [] 0 0 1))
     ∷ unsound (with_open 2 1 (counting 240 [] 0 0 2))
@@ -184,6 +260,11 @@ soundness =
     ∷ account_is false (with_open 1 241 (counting 32 [] 0 0 1))
     -- a maximum of 0
     ∷ unsound (counting 0 [] 0 0 0)
+    -- the check off and on, by a wrong code, and by the next number and the largest of a byte, which are neither
+    ∷ checked (with_check 0 fresh_off) (wrong 0xC4 (pattern 0 60) ∷ []) ((1, 60) ∷ []) (with_check 0 (counting 240 (line sent 1 1 60 ∷ []) 0 0 1)) (pattern 0 60) fresh_bytes
+    ∷ checked (with_check 1 fresh_off) (wrong 0xC4 (pattern 0 60) ∷ []) ((17, 0) ∷ []) (with_check 1 (counting 240 (line badcheck 0 1 0 ∷ []) 0 0 1)) [] fresh_bytes
+    ∷ unsound (with_check 2 fresh_off)
+    ∷ unsound (with_check 255 fresh_off)
     -- sound settings: both addresses kept, and CBDM with the MAC alone
     ∷ resumed (counting 240 [] 0 0 0) (holding 0x41 0x03) (up 0xC4 20 ∷ []) ((1, 60) ∷ []) (counting 240 (line sent 1 1 20 ∷ []) 0 0 1)
     ∷ resumed (counting 240 [] 0 0 0) (holding 0xC1 0x01) (up 0xC4 20 ∷ []) ((1, 60) ∷ []) (counting 240 (line sent 1 1 20 ∷ []) 0 0 1)
@@ -329,4 +410,4 @@ status_data =
     ∷ []
 
 abbrev pub Worked : Type 0
-Worked = AllHold (cases ++ (further ++ (soundness ++ (rows_unsound ++ (links ++ (reserved_bits ++ status_data))))))
+Worked = AllHold (cases ++ (further ++ (checks ++ (soundness ++ (rows_unsound ++ (links ++ (reserved_bits ++ status_data)))))))
