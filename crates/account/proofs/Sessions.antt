@@ -17,8 +17,8 @@ use Rattle.journal.specs.declared.reading.Reading.{Reading}
 use Rattle.journal.specs.Feeding.{Fed, fed, is_bad, started, concluded}
 use Rattle.journal.specs.Format.{parsed}
 use Rattle.journal.specs.Journal.{account_in, outcome_printed}
-use Rattle.journal.specs.Properties.{Progress, fed_on, fed_pieces, at_start, max_record}
-use Rattle.journal.proofs.Left.{less-than-a-record}
+use Rattle.journal.specs.Properties.{Progress, fed_on, fed_pieces, at_start, max_record, max_awaited}
+use Rattle.journal.proofs.Left.{less-than-a-record, most-awaited}
 use Rattle.journal.proofs.Pieces.{in_pieces}
 use Rattle.journal.proofs.Whole.{fed-within}
 use Rattle.account.specs.Buffer.{Moved, moved_to_front}
@@ -167,10 +167,11 @@ always-room bytes s small session =
     let st : Stands bytes s = stands bytes s session in
     by-test st (is_bad s.next.reading) refl
   where
-    by-test : Stands bytes s → (b : Bool) → is_bad s.next.reading ≡ b → s.next.unused < max_record
+    by-test : Stands bytes s → (b : Bool) → is_bad s.next.reading ≡ b → s.next.unused < max_record true
     by-test st true e = let none : s.next.unused ≡ 0 = st.none-of-bad e in omega arith
     by-test st false e =
         let f : Fed = fed started bytes in
         let size : s.next.unused ≡ length (drop f.used bytes) = sym (length-take-le s.next.unused s.buffer st.fits) ∙ ap length (st.unused-are e) in
-        let left : length bytes < f.used + max_record = less-than-a-record started bytes small (ap is_bad (sym st.reading-is) ∙ e) in
+        let left : length bytes < f.used + max_awaited f.reading = less-than-a-record.left_in started bytes small (ap is_bad (sym st.reading-is) ∙ e) in
+        let most : max_awaited f.reading ≤ max_record true = most-awaited f.reading in
         omega (arith, length-drop f.used bytes)

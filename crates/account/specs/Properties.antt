@@ -1,11 +1,11 @@
 -- What the program prints, however its input comes in (manual 9.5, 9.6).
-use Rattle.std.specs.Prelude.{ℕ, ◌-◌, ◌≤◌, ◌<◌, List, [], ◌++◌, ◌≡◌, length, take}
-use Rattle.prelude.specs.Parts.{part}
+use Rattle.std.specs.Prelude.{ℕ, ◌-◌, ◌≤◌, ◌<◌, true, List, [], ◌++◌, ◌≡◌, length, take}
+use Rattle.prelude.specs.Parts.{AreBytes, part}
 use Rattle.printout.specs.Printout.{shown}
 use Rattle.journal.specs.Feeding.{started, concluded}
 use Rattle.journal.specs.Format.{parsed}
 use Rattle.journal.specs.Journal.{account_in, output, outcome_printed}
-use Rattle.journal.specs.Properties.{AreBytes, max_record}
+use Rattle.journal.specs.Properties.{max_record}
 use Rattle.account.specs.Piece.{InBuffer, in_buffer, next_at, piece_fed}
 
 -- a read leaves the bytes that were not used yet and puts others behind them; what is there then is fed (manual 9.5)
@@ -28,6 +28,6 @@ pub record EverySession : Type 0 where
   pub account_is : (bytes : List ℕ) (s : InBuffer) → Session bytes s → concluded s.next.reading s.next.unused ≡ account_in (parsed bytes)
   pub printed_is : (bytes : List ℕ) (s : InBuffer) (out : List ℕ) → Session bytes s → outcome_printed (concluded s.next.reading s.next.unused) out ≡ shown (output bytes) out
 
--- fewer bytes than a record has are not used yet, so there is room behind them, and a read of no bytes is the end (manual 9.5)
+-- fewer bytes than the longest record of any version has are not used yet, so there is room behind them, and a read of no bytes is the end (manual 9.5)
 abbrev pub AlwaysRoom : Type 0
-AlwaysRoom = (bytes : List ℕ) (s : InBuffer) → AreBytes bytes → Session bytes s → s.next.unused < max_record
+AlwaysRoom = (bytes : List ℕ) (s : InBuffer) → AreBytes bytes → Session bytes s → s.next.unused < max_record true

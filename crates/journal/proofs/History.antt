@@ -14,7 +14,8 @@ use Rattle.settings.specs.Layout.{with_settings}
 use Rattle.settings.specs.Enable.{freshened}
 use Rattle.state.specs.declared.State.{State}
 use Rattle.state.specs.Account.{Formed}
-use Rattle.state.specs.State.{fresh_state, made}
+use Rattle.state.specs.declared.Setup.{Setup}
+use Rattle.state.specs.State.{check_number, setup_of, fresh_state, made}
 use Rattle.state.proofs.FreshStates.{made-fresh}
 use Rattle.translator.specs.declared.Transacted.{Transacted}
 use Rattle.translator.specs.Transact.{transacted}
@@ -85,19 +86,20 @@ settings-length = refl
 
 pub every-journal : EveryJournal
 unfolding output
-every-journal bytes maximum transactions e =
-    let told : _ = round_trip.read_was_written bytes maximum transactions e in
-    let start : Kept = fresh maximum empty_store settings_at_start in
-    let state_is : (made maximum).state ≡ fresh_state maximum = made-fresh maximum told.1 told.2 in
-    let held-is : held start ≡ prelude.after (fresh_state maximum) empty_store settings_at_start = rw (state_is, settings-are-fresh) in
+every-journal bytes h transactions e =
+    let told : _ = round_trip.read_was_written bytes h transactions e in
+    let setup : Setup = setup_of h.maximum (check_number h.check) in
+    let start : Kept = fresh h.maximum h.check empty_store settings_at_start in
+    let state_is : (made h.maximum h.check).state ≡ fresh_state setup = made-fresh h.maximum h.check told.1 told.2 in
+    let held-is : held start ≡ prelude.after (fresh_state setup) empty_store settings_at_start = rw (state_is, settings-are-fresh) in
     let whole : Whole start = record {
       store-whole = refl;
       settings-whole = ap length settings-are-fresh ∙ settings-length;
       formed = subst (λ (s : State). Formed s.account) (sym state_is) refl;
     } in
-    let kept-is : account_after maximum transactions ≡ (kept_after maximum transactions).state.account =
+    let kept-is : account_after h transactions ≡ (kept_after h transactions).state.account =
     ap (λ (x : After State). x.result.account) (ap (λ (x : After State). all_transacted x transactions) (sym held-is) ∙ replayed-is-calls transactions start whole) in
-    let demand : Demand3For maximum empty_store settings_at_start (map call_of transactions) = demand3 maximum empty_store settings_at_start (rw settings-length (omega arith)) (map call_of transactions) in
-    let listed : account_after maximum transactions ≡ account_for (setup_for maximum) (list_of transactions) =
-    kept-is ∙ demand.agrees.account_agrees ∙ ap (account_for (setup_for maximum)) (demand.list_is ∙ ap (take most_counted) (all-have-room transactions)) in
+    let demand : Demand3For h.maximum h.check empty_store settings_at_start (map call_of transactions) = demand3 h.maximum h.check empty_store settings_at_start (rw settings-length (omega arith)) (map call_of transactions) in
+    let listed : account_after h transactions ≡ account_for (setup_for h.maximum h.check) (list_of transactions) =
+    kept-is ∙ demand.agrees.account_agrees ∙ ap (account_for (setup_for h.maximum h.check)) (demand.list_is ∙ ap (take most_counted) (all-have-room transactions)) in
     record { account_is_kept = kept-is; account_is_the_lists = listed; printed_is_the_lists = ap (λ (j : Journal). text_of (account_in j)) e ∙ ap printout listed }

@@ -19,15 +19,18 @@ use Rattle.record.proofs.Resuming.{and_then, records-append}
 use Rattle.state.specs.declared.Account.{Account}
 use Rattle.state.specs.declared.State.{State}
 use Rattle.translator.specs.declared.records.Replay.{Replay}
+use Rattle.state.specs.State.{is_on}
 use Rattle.translator.specs.Replay.{state_after, all_transacted, stopped_after, records_taken, replay_of, stop_of, replayed, fresh_replay}
 use Rattle.translator.specs.Transact.{transacted}
+use Rattle.translator.proofs.Usable.{check-stays}
+use Rattle.journal.specs.declared.header.Header.{Header}
 use Rattle.journal.specs.declared.header.HeaderError.{HeaderError}
-use Rattle.journal.specs.declared.header.HeaderError.TheVariants as header
+use Rattle.journal.specs.declared.header.HeaderError.TheVariants as error
 use Rattle.journal.specs.declared.reading.Reading.{Reading}
 use Rattle.journal.specs.declared.reading.Stage.{Stage}
 use Rattle.journal.specs.declared.reading.Stage.TheVariants as stage
 use Rattle.journal.specs.Feeding.{Fed, fed_to, reading_at, stage_after, records_fed, by_header, by_stage, fed, is_bad, is_bad_stage, account_at, concluded}
-use Rattle.journal.specs.Format.{mark_size, header_size, is_marked, header_in, parsed}
+use Rattle.journal.specs.Format.{maximum_at, header_size, is_named, header_in, parsed}
 use Rattle.journal.specs.Journal.{account_in}
 use Rattle.journal.specs.Properties.{Progress, progress, fed_on, fed_pieces, joined, at_start, InPieces}
 use Rattle.journal.proofs.Headers.{Good, bad-long}
@@ -39,13 +42,19 @@ unfolding all_transacted
 all_append c [] second = refl
 all_append c (t ∷ rest) second = all_append (state_after (transacted c.result c.store c.settings t)) rest second
 
+-- no transaction changes the check
+pub all-keep-check : (c : After State) (transactions : List Transaction) → (all_transacted c transactions).result.check ≡ c.result.check
+unfolding all_transacted
+all-keep-check c [] = refl
+all-keep-check c (t ∷ rest) = all-keep-check (state_after (transacted c.result c.store c.settings t)) rest ∙ check-stays c.result c.store c.settings t
+
 -- a header that is there stays what it is
 header-append : (bytes more : List ℕ) → header_size ≤ length bytes → header_in (bytes ++ more) ≡ header_in bytes
-unfolding header_in is_marked
+unfolding header_in is_named
 header-append bytes more h =
     let longer : header_size ≤ length (bytes ++ more) = simp length-append (omega arith) in
     let at : (k : ℕ) → k < header_size → get_or (bytes ++ more) k 0 ≡ get_or bytes k 0 = λ k l. get_or-append bytes more 0 k (omega arith) in
-    simp (le-ltb (length (bytes ++ more)) header_size longer, le-ltb (length bytes) header_size h, at 0 (omega arith), at 1 (omega arith), at 2 (omega arith), at 3 (omega arith), at 4 (omega arith), at mark_size (omega arith))
+    simp (le-ltb (length (bytes ++ more)) header_size longer, le-ltb (length bytes) header_size h, at 0 (omega arith), at 1 (omega arith), at 2 (omega arith), at 3 (omega arith), at 4 (omega arith), at maximum_at (omega arith))
 
 -- what is fed once more of what was left
 abbrev onward : Fed → List ℕ → List ℕ → Fed
@@ -54,8 +63,11 @@ onward f bytes more =
     fed_to g.reading (f.used + g.used)
 
 module _ (r : Replay) (before : ℕ) (bytes more : List ℕ) (h : before ≤ length bytes) where
+  abbrev on : Bool
+  on = is_on r.state.check
+
   abbrev here : Records
-  here = records_in (drop before bytes)
+  here = records_in on (drop before bytes)
 
   abbrev from : After State
   from = after r.state r.store r.settings
@@ -80,26 +92,30 @@ module _ (r : Replay) (before : ℕ) (bytes more : List ℕ) (h : before ≤ len
   left = drop-drop (0 + here.used) before bytes ∙ ap (λ (n : ℕ). drop (before + n) bytes) (zero-add here.used)
 
   met : (b : Bool) → here.bad_link ≡ b
-      → fed_by (and_then here (records_in (drop (before + here.used) bytes ++ more))) ≡ onward_from b (drop (before + here.used) bytes ++ more)
+      → fed_by (and_then here (records_in on (drop (before + here.used) bytes ++ more))) ≡ onward_from b (drop (before + here.used) bytes ++ more)
   unfolding by_stage records_taken when◌then◌else◌
   met true e =
       ap (fed_by) (if-true _ _ _ e)
       ∙ (ap (λ (b : Bool). fed_to (reading_at (stage_after (stop_of b)) (replay_at reached)) (before + here.used)) e
       ∙ ap (λ (n : ℕ). fed_to (reading_at stage.Bad (replay_at reached)) n) (sym (add-zero (before + here.used))))
   met false e =
-      let rest : Records = records_in (drop (before + here.used) bytes ++ more) in
+      let rest : Records = records_in on (drop (before + here.used) bytes ++ more) in
       let both : Records = record { transactions = here.transactions ++ rest.transactions; used = here.used + rest.used; bad_link = rest.bad_link } in
       let place : before + (here.used + rest.used) ≡ before + here.used + (0 + rest.used) = omega arith in
       ap (fed_by) (if-false _ _ _ e)
       ∙ (ap (λ (c : After State). records_fed (stopped_after before both c)) (all_append from here.transactions rest.transactions)
-      ∙ ap (λ (n : ℕ). fed_to (reading_at (stage_after (stop_of rest.bad_link)) (replay_at (all_transacted reached rest.transactions))) n) place)
+      ∙ (ap (λ (n : ℕ). fed_to (reading_at (stage_after (stop_of rest.bad_link)) (replay_at (all_transacted reached rest.transactions))) n) place
+      ∙ ap (λ (b : Bool). gone-on (records_in b (drop (before + here.used) bytes ++ more))) (sym (ap is_on (all-keep-check from here.transactions)))))
+    where
+      gone-on : Records → Fed
+      gone-on rest = fed_to (reading_at (stage_after (stop_of rest.bad_link)) (replay_at (all_transacted reached rest.transactions))) (before + here.used + (0 + rest.used))
 
   records-onward : records_fed (replayed r before (drop before (bytes ++ more))) ≡ onward (records_fed (replayed r before (drop before bytes))) bytes more
   unfolding records_taken
   records-onward =
-      ap (λ (l : List ℕ). fed_by (records_in l)) (drop-append-le before bytes more h)
+      ap (λ (l : List ℕ). fed_by (records_in on l)) (drop-append-le before bytes more h)
       ∙ (ap (fed_by)
-      (records-append 0 (drop before bytes) more zero-le ∙ ap (λ (l : List ℕ). and_then here (records_in (l ++ more))) left)
+      (records-append on 0 (drop before bytes) more zero-le ∙ ap (λ (l : List ℕ). and_then here (records_in on (l ++ more))) left)
       ∙ met here.bad_link refl)
 
 -- any part of a journal, and then what it left with more bytes behind it
@@ -110,16 +126,16 @@ fed-onward reading bytes more = by-stage reading.stage
     r : Replay
     r = reading.replay
 
-    by-header : (found : Result ℕ HeaderError) → header_in bytes ≡ found → by_header (header_in (bytes ++ more)) r (bytes ++ more) ≡ onward (by_header found r bytes) bytes more
-    by-header (Err header.Cut) e =
+    by-header : (found : Result Header HeaderError) → header_in bytes ≡ found → by_header (header_in (bytes ++ more)) r (bytes ++ more) ≡ onward (by_header found r bytes) bytes more
+    by-header (Err error.Cut) e =
         let g : Fed = fed (reading_at stage.Start r) (bytes ++ more) in
         ap (λ (n : ℕ). fed_to g.reading n) (sym (zero-add g.used))
-    by-header (Err header.Bad) e =
-        ap (λ (found : Result ℕ HeaderError). by_header found r (bytes ++ more)) (header-append bytes more (bad-long bytes e) ∙ e)
-    by-header (Ok maximum) e =
-        let g : Good bytes maximum = good-header bytes maximum e in
-        ap (λ (found : Result ℕ HeaderError). by_header found r (bytes ++ more)) (header-append bytes more g.long ∙ e)
-        ∙ records-onward (fresh_replay maximum) header_size bytes more g.long
+    by-header (Err error.Bad) e =
+        ap (λ (found : Result Header HeaderError). by_header found r (bytes ++ more)) (header-append bytes more (bad-long bytes e) ∙ e)
+    by-header (Ok h) e =
+        let g : Good bytes h = good-header bytes h e in
+        ap (λ (found : Result Header HeaderError). by_header found r (bytes ++ more)) (header-append bytes more g.long ∙ e)
+        ∙ records-onward (fresh_replay h.maximum h.check) header_size bytes more g.long
 
     by-stage : (s : Stage) → by_stage s r (bytes ++ more) ≡ onward (by_stage s r bytes) bytes more
     by-stage stage.Start = by-header (header_in bytes) refl

@@ -20,15 +20,16 @@ use Rattle.state.specs.declared.Account.{Account}
 use Rattle.state.specs.declared.State.{State}
 use Rattle.state.specs.Account.{Formed}
 use Rattle.state.specs.Sound.{account_sound, sound}
-use Rattle.state.specs.State.{max_maximum, fresh_state}
+use Rattle.state.specs.State.{max_maximum, check_number, is_on, setup_of, fresh_state}
 use Rattle.state.proofs.FreshStates.{made-fresh, fresh-sound}
 use Rattle.state.proofs.Soundness.{sound-tells}
 use Rattle.translator.specs.declared.records.Replay.{Replay}
-use Rattle.translator.specs.Replay.{Replayed, stop_of, state_after, all_transacted, records_taken, empty_store, settings_at_start, fresh_replay, replayed}
+use Rattle.translator.specs.Replay.{Replayed, stop_of, state_after, all_transacted, stopped_after, records_taken, empty_store, settings_at_start, fresh_replay, replayed}
 use Rattle.translator.specs.Transact.{transacted}
 use Rattle.translator.proofs.Properties.{every-transaction}
+use Rattle.journal.specs.declared.header.Header.{Header}
 use Rattle.journal.specs.declared.header.HeaderError.{HeaderError}
-use Rattle.journal.specs.declared.header.HeaderError.TheVariants as header
+use Rattle.journal.specs.declared.header.HeaderError.TheVariants as error
 use Rattle.journal.specs.declared.reading.Reading.{Reading}
 use Rattle.journal.specs.declared.reading.Stage.{Stage}
 use Rattle.journal.specs.declared.reading.Stage.TheVariants as stage
@@ -59,59 +60,66 @@ unfolding concluded
 concluded-all true replay unused h e = absurd (h refl)
 concluded-all false replay unused h e = if-true _ _ _ (eq-eqb unused 0 e)
 
+-- the check of a state that was made is on where it was asked for
+pub on-as-asked : (check : Bool) → is_on (check_number check) ≡ check
+on-as-asked true = refl
+on-as-asked false = refl
+
 -- the bytes behind a good header
-module _ (maximum : ℕ) (journal : List ℕ) (g : Good journal maximum) where
+module _ (h : Header) (journal : List ℕ) (g : Good journal h) where
   abbrev rest : List ℕ
   rest = drop header_size journal
 
   abbrev records : Records
-  records = records_in rest
+  records = records_in h.check rest
+
+  abbrev fresh : After State
+  fresh = after (fresh_state (setup_of h.maximum (check_number h.check))) empty_store settings_at_start
 
   abbrev left : Replayed
-  left = replayed (fresh_replay maximum) header_size rest
+  left = stopped_after header_size records (all_transacted fresh records.transactions)
 
-  account-is : left.replay.state.account ≡ account_after maximum records.transactions
+  left-is : replayed (fresh_replay h.maximum h.check) header_size rest ≡ left
   unfolding records_taken fresh_replay
-  account-is =
-      ap (λ (s : State). (all_transacted (after s empty_store settings_at_start) records.transactions).result.account) (made-fresh maximum g.least g.most)
+  left-is =
+      ap (λ (s : State). records_taken s empty_store settings_at_start header_size rest) (made-fresh h.maximum h.check g.least g.most)
+      ∙ ap (λ (on : Bool). stopped_after header_size (records_in on rest) (all_transacted fresh (records_in on rest).transactions)) (on-as-asked h.check)
 
-  account-sound : account_sound (account_after maximum records.transactions) ≡ true
+  account-sound : account_sound (account_after h records.transactions) ≡ true
   account-sound =
-      (sound-tells _ (all_sound (after (fresh_state maximum) empty_store settings_at_start) records.transactions refl (fresh-sound maximum g.least g.most))).account-is-sound
-
-  place : left.stopped.at ≡ header_size + records.used
-  unfolding records_taken
-  place = refl
+      (sound-tells _ (all_sound fresh records.transactions refl (fresh-sound h.maximum h.check g.least g.most))).account-is-sound
 
   size : length rest ≡ length journal - header_size
   size = length-drop header_size journal
 
   within : Within 0 rest records
-  within = used-within 0 rest (omega arith)
+  within = used-within h.check 0 rest (omega arith)
 
   all-or-left : (t : Bool) → eqb records.used (length rest) ≡ t
-      → concluded (records_fed left).reading (length journal - left.stopped.at) ≡ account_in (when t then good maximum records.transactions else bad)
-  unfolding when◌then◌else◌ records_taken
+      → concluded (records_fed left).reading (length journal - left.stopped.at) ≡ account_in (when t then good h records.transactions else bad)
+  unfolding when◌then◌else◌
   all-or-left true e =
       concluded-all records.bad_link left.replay _ (λ b. not-below (eqb-true _ _ e) (within.left b)) none
-      ∙ ap (λ (a : Account). Some a) account-is
     where
       not-below : records.used ≡ length rest → 0 + records.used < length rest → ⊥
       not-below e l = omega arith
 
       none : length journal - left.stopped.at ≡ 0
-      none = let all : records.used ≡ length rest = eqb-true _ _ e in omega (arith, size, place)
-  all-or-left false e = concluded-left _ _ (λ z. eqb-false _ _ e (same z size place within.within g.long))
+      none = let all : records.used ≡ length rest = eqb-true _ _ e in omega (arith, size)
+  all-or-left false e = concluded-left _ _ (λ z. eqb-false _ _ e (same z size within.within g.long))
     where
-      same : length journal - left.stopped.at ≡ 0 → length rest ≡ length journal - header_size → left.stopped.at ≡ header_size + records.used
-          → 0 + records.used ≤ length rest → header_size ≤ length journal → records.used ≡ length rest
-      same z size place w long = omega arith
+      same : length journal - left.stopped.at ≡ 0 → length rest ≡ length journal - header_size → 0 + records.used ≤ length rest → header_size ≤ length journal → records.used ≡ length rest
+      same z size w long = omega arith
 
-  records-concluded : concluded (records_fed left).reading (length journal - (records_fed left).used) ≡ account_in (with_header (Ok maximum) rest)
-  records-concluded = all-or-left (eqb records.used (length rest)) refl
+  records-concluded :
+      (let f : Fed = records_fed (replayed (fresh_replay h.maximum h.check) header_size rest) in
+      concluded f.reading (length journal - f.used) ≡ account_in (with_header (Ok h) rest))
+  records-concluded =
+      ap (λ (r : Replayed). concluded (records_fed r).reading (length journal - (records_fed r).used)) left-is
+      ∙ all-or-left (eqb records.used (length rest)) refl
 
   -- whether all of it is used or not, what is printed is the output: the account is sound
-  records-printed : (out : List ℕ) → outcome_printed (account_in (with_header (Ok maximum) rest)) out ≡ shown (text_of (account_in (with_header (Ok maximum) rest))) out
+  records-printed : (out : List ℕ) → outcome_printed (account_in (with_header (Ok h) rest)) out ≡ shown (text_of (account_in (with_header (Ok h) rest))) out
   unfolding printed
   records-printed out =
       if-cases (λ (j : Journal). outcome_printed (account_in j) out ≡ shown (text_of (account_in j)) out) (eqb records.used (length rest)) _ _
@@ -128,42 +136,42 @@ pub whole-concluded : (journal : List ℕ) →
 unfolding by_stage by_header parsed
 whole-concluded journal = by-header (header_in journal) refl
   where
-    P : Result ℕ HeaderError → Type 0
-    P h =
-        let f : Fed = by_header h (fresh_replay max_maximum) journal in
-        concluded f.reading (length journal - f.used) ≡ account_in (with_header h (drop header_size journal))
+    P : Result Header HeaderError → Type 0
+    P found =
+        let f : Fed = by_header found (fresh_replay max_maximum false) journal in
+        concluded f.reading (length journal - f.used) ≡ account_in (with_header found (drop header_size journal))
 
-    by-header : (h : Result ℕ HeaderError) → header_in journal ≡ h → P h
-    by-header (Err header.Cut) e = concluded-unread _ _ _ refl
-    by-header (Err header.Bad) e = concluded-unread _ _ _ refl
-    by-header (Ok maximum) e = records-concluded maximum journal (good-header journal maximum e)
+    by-header : (found : Result Header HeaderError) → header_in journal ≡ found → P found
+    by-header (Err error.Cut) e = concluded-unread _ _ _ refl
+    by-header (Err error.Bad) e = concluded-unread _ _ _ refl
+    by-header (Ok h) e = records-concluded h journal (good-header journal h e)
 
 -- what is printed of its account is its output
 pub whole-printed : (journal out : List ℕ) → outcome_printed (account_in (parsed journal)) out ≡ shown (output journal) out
 unfolding parsed output
 whole-printed journal out = by-header (header_in journal) refl
   where
-    by-header : (h : Result ℕ HeaderError) → header_in journal ≡ h
-        → outcome_printed (account_in (with_header h (drop header_size journal))) out ≡ shown (text_of (account_in (with_header h (drop header_size journal)))) out
-    by-header (Err header.Cut) e = refl
-    by-header (Err header.Bad) e = refl
-    by-header (Ok maximum) e = records-printed maximum journal (good-header journal maximum e) out
+    by-header : (found : Result Header HeaderError) → header_in journal ≡ found
+        → outcome_printed (account_in (with_header found (drop header_size journal))) out ≡ shown (text_of (account_in (with_header found (drop header_size journal)))) out
+    by-header (Err error.Cut) e = refl
+    by-header (Err error.Bad) e = refl
+    by-header (Ok h) e = records-printed h journal (good-header journal h e) out
 
 -- what is used of a part is there
 records-fed-within : (r : Replay) (before : ℕ) (part : List ℕ) → before ≤ length part → (records_fed (replayed r before (drop before part))).used ≤ length part
 unfolding records_taken
 records-fed-within r before part h =
-    let w : Within 0 (drop before part) (records_in (drop before part)) = used-within 0 (drop before part) (omega arith) in
+    let w : Within 0 (drop before part) (records_in (is_on r.state.check) (drop before part)) = used-within (is_on r.state.check) 0 (drop before part) (omega arith) in
     omega (arith, length-drop before part)
 
 pub fed-within : (reading : Reading) (part : List ℕ) → (fed reading part).used ≤ length part
 unfolding by_stage by_header
 fed-within reading part = by-stage reading.stage
   where
-    by-header : (h : Result ℕ HeaderError) → header_in part ≡ h → (by_header h reading.replay part).used ≤ length part
-    by-header (Err header.Cut) e = omega arith
-    by-header (Err header.Bad) e = omega arith
-    by-header (Ok maximum) e = records-fed-within _ header_size part (good-header part maximum e).long
+    by-header : (found : Result Header HeaderError) → header_in part ≡ found → (by_header found reading.replay part).used ≤ length part
+    by-header (Err error.Cut) e = omega arith
+    by-header (Err error.Bad) e = omega arith
+    by-header (Ok h) e = records-fed-within _ header_size part (good-header part h e).long
 
     by-stage : (s : Stage) → (by_stage s reading.replay part).used ≤ length part
     by-stage stage.Start = by-header (header_in part) refl

@@ -8,8 +8,9 @@ use Rattle.state.specs.State.{max_maximum}
 use Rattle.translator.specs.declared.records.Replay.{Replay}
 use Rattle.translator.specs.Replay.{Replayed, fresh_replay, replayed}
 use Rattle.journal.specs.Format.{header_size, header_in}
+use Rattle.journal.specs.declared.header.Header.{Header}
 use Rattle.journal.specs.declared.header.HeaderError.{HeaderError}
-use Rattle.journal.specs.declared.header.HeaderError.TheVariants as header
+use Rattle.journal.specs.declared.header.HeaderError.TheVariants as error
 use Rattle.journal.specs.declared.reading.Reading.{Reading}
 use Rattle.journal.specs.declared.reading.Stage.{Stage}
 use Rattle.journal.specs.declared.reading.Stage.TheVariants as stage
@@ -29,7 +30,7 @@ fed_to reading used = record { reading = reading; used = used }
 
 -- nothing is read yet (manual 9.1)
 abbrev pub started : Reading
-started = reading_at stage.Start (fresh_replay max_maximum)
+started = reading_at stage.Start (fresh_replay max_maximum false)
 
 -- a bad link byte is bad for good (manual 9.3)
 abbrev pub stage_after : Stop → Stage
@@ -40,11 +41,11 @@ stage_after stop.BadLink = stage.Bad
 abbrev pub records_fed : Replayed → Fed
 records_fed r = fed_to (reading_at (stage_after r.stopped.stop) r.replay) r.stopped.at
 
--- a header that is cut waits for more; behind a good one come the records, on a fresh state for its maximum (manual 9.4)
-unfoldable pub by_header : Result ℕ HeaderError → Replay → List ℕ → Fed
-by_header (Err header.Cut) replay part = fed_to (reading_at stage.Start replay) 0
-by_header (Err header.Bad) replay part = fed_to (reading_at stage.Bad replay) 0
-by_header (Ok maximum) replay part = records_fed (replayed (fresh_replay maximum) header_size (drop header_size part))
+-- a header that is cut waits for more; behind a good one come the records, on a fresh state for its maximum, with the check as its version says (manual 9.4)
+unfoldable pub by_header : Result Header HeaderError → Replay → List ℕ → Fed
+by_header (Err error.Cut) replay part = fed_to (reading_at stage.Start replay) 0
+by_header (Err error.Bad) replay part = fed_to (reading_at stage.Bad replay) 0
+by_header (Ok h) replay part = records_fed (replayed (fresh_replay h.maximum h.check) header_size (drop header_size part))
 
 -- what one call takes of a part (manual 9.1, 9.2)
 unfoldable pub by_stage : Stage → Replay → List ℕ → Fed

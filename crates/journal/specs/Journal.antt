@@ -4,18 +4,19 @@ use Rattle.prelude.specs.After.{after}
 use Rattle.printout.specs.Printout.{Written, printout, shown, printed}
 use Rattle.record.specs.Transaction.{Transaction}
 use Rattle.state.specs.declared.Account.{Account}
-use Rattle.state.specs.State.{fresh_state}
+use Rattle.state.specs.State.{check_number, setup_of, fresh_state}
 use Rattle.translator.specs.Replay.{all_transacted, empty_store, settings_at_start}
+use Rattle.journal.specs.declared.header.Header.{Header}
 use Rattle.journal.specs.Format.{Journal, bad, good, parsed, bad_journal}
 
 -- the account that transactions leave, from a fresh state and fresh settings on (manual 9.4)
-abbrev pub account_after : ℕ → List Transaction → Account
-account_after maximum transactions = (all_transacted (after (fresh_state maximum) empty_store settings_at_start) transactions).result.account
+abbrev pub account_after : Header → List Transaction → Account
+account_after h transactions = (all_transacted (after (fresh_state (setup_of h.maximum (check_number h.check))) empty_store settings_at_start) transactions).result.account
 
 -- the account of a journal, which a bad one has not (manual 9.3, 9.4)
 abbrev pub account_in : Journal → Option Account
 account_in bad = None
-account_in (good maximum transactions) = Some (account_after maximum transactions)
+account_in (good h transactions) = Some (account_after h transactions)
 
 -- what is printed: the account, or that the journal is bad (manual 9.3, 9.4)
 abbrev pub text_of : Option Account → List ℕ

@@ -38,7 +38,7 @@ impl Reading {
     {
         Reading {
             stage: Stage::Start,
-            replay: Replay::start(state::MAX_MAXIMUM as u32),
+            replay: Replay::start(state::MAX_MAXIMUM as u32, false),
         }
     }
 
@@ -61,8 +61,8 @@ impl Reading {
         ensures { fed_to self.new result ≡ by_header (header_in part.now) self.old.replay part.now }
     {
         match read_header(part) {
-            Ok(maximum) => {
-                self.replay = Replay::start(maximum);
+            Ok(header) => {
+                self.replay = Replay::start(header.maximum, header.check);
                 self.feed_records(part, HEADER_SIZE)
             }
             Err(HeaderError::Cut) => 0,

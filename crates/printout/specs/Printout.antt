@@ -5,7 +5,7 @@ use Rattle.io.specs.Digits.{hex_digit_ascii}
 use Rattle.prelude.specs.Choice.{when◌then◌else◌}
 use Rattle.state.specs.declared.Account.{Account}
 use Rattle.state.specs.declared.Beside.{Beside}
-use Rattle.state.specs.Account.{sent, superseded, flushed, broken, over, short, linkdown, aborted, badlength, packets_in, fragments_in, bytes_in}
+use Rattle.state.specs.Account.{sent, superseded, flushed, broken, over, short, linkdown, aborted, badlength, badcheck, packets_in, fragments_in, bytes_in}
 use Rattle.state.specs.Sound.{account_sound}
 use Rattle.prelude.specs.Ascii.{ascii}
 
@@ -39,7 +39,7 @@ line_of name numbers = name ++ fields numbers
 abbrev pub fates : List (String × ℕ)
 fates =
     ("sent", sent) ∷ ("superseded", superseded) ∷ ("flushed", flushed) ∷ ("broken", broken) ∷ ("over", over)
-    ∷ ("short", short) ∷ ("linkdown", linkdown) ∷ ("aborted", aborted) ∷ ("badlength", badlength) ∷ []
+    ∷ ("short", short) ∷ ("linkdown", linkdown) ∷ ("aborted", aborted) ∷ ("badlength", badlength) ∷ ("badcheck", badcheck) ∷ []
 
 -- packets, fragments and bytes of a row (manual 8.2)
 abbrev pub cells_of : ℕ → List ℕ → List ℕ
@@ -70,9 +70,9 @@ count_lines b =
 unfoldable pub printout : Account → List ℕ
 printout a = heading ++ (fate_lines fates a.grid ++ count_lines a.beside)
 
--- the most bytes of a printout (manual 9.4)
+-- no printout has more bytes (manual 9.4)
 abbrev pub max_printout : ℕ
-max_printout = 846
+max_printout = 920
 
 -- how many bytes of a buffer were written, and what it holds then (manual 9.4)
 pub record Written : Type 0 where

@@ -12,7 +12,7 @@ use state::{Account, BYTES, Beside, CELLS, COLUMNS, FRAGMENTS, ROWS, Row};
 use text::Text;
 
 // The most bytes of a printout.
-pub const MAX_PRINTOUT: usize = 846;
+pub const MAX_PRINTOUT: usize = 920;
 
 // Prints the account at the start of out and answers how many bytes that took, at most MAX_PRINTOUT.
 // Answers 0 and writes nothing where out has fewer, or where the account is not sound. A count and no
@@ -84,6 +84,7 @@ fn name_of(row: Row) -> &'static str
         Row::LinkDown => "linkdown",
         Row::Aborted => "aborted",
         Row::BadLength => "badlength",
+        Row::BadCheck => "badcheck",
     }
 }
 

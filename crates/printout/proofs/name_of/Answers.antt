@@ -26,3 +26,6 @@ returns-in-Aborted c = cc
 
 pub returns-in-BadLength : goal.returns-in-BadLength
 returns-in-BadLength c = cc
+
+pub returns-in-BadCheck : goal.returns-in-BadCheck
+returns-in-BadCheck c = cc

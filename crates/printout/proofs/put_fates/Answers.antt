@@ -12,5 +12,5 @@ loop-row-preserved c = row-put c.args.text.now c.args.grid.now c.loop-row.row-in
 pub returns : goal.returns
 unfolding fate_lines
 returns c =
-    let nine : c.loop-row.row-index ≡ row_count = omega arith in
-    c.loop-row.invariant ∙ ap (λ (n : ℕ). cut (c.args.text.now ++ (heading ++ flat_map (row_line c.args.grid.now) (take n ROWS)))) nine
+    let all : c.loop-row.row-index ≡ row_count = omega arith in
+    c.loop-row.invariant ∙ ap (λ (n : ℕ). cut (c.args.text.now ++ (heading ++ flat_map (row_line c.args.grid.now) (take n ROWS)))) all
