@@ -1,17 +1,15 @@
 // The cases of transactions, on what is carried from one case to the next.
 use crate::case::{Answer, Case, CaseError};
 use crate::digest::Digest;
+use crate::field::Field;
 use crate::states::bytes_of;
 use crate::store;
-use crate::store::pattern;
+use crate::store::short_pattern;
 use crate::text::{encode_field, flag};
 use outcome::Reply;
-use record::Transaction;
+use record::{Attributes, Transaction};
 use state::{Account, Beside, State};
 use std::alloc::Global;
-
-// The most bytes of a store that is carried, and of a pattern that is sent.
-const MAX_PATTERN: u16 = 2048;
 
 const MAX_SETTINGS: usize = 64;
 
@@ -39,6 +37,7 @@ impl Carried {
             state: State {
                 account,
                 maximum: 0,
+                check: 0,
             },
             store: Vec::new(alloc),
             settings: Vec::new(alloc),
@@ -62,9 +61,8 @@ impl Carried {
     pub(crate) fn send(&mut self, case: &Case) -> Answer {
         let [command, link_up, data] = case.fields::<3>()?;
         let transaction = Transaction {
-            command: command.number()?,
+            attributes: uncoded(command, link_up)?,
             bytes: data.bytes(),
-            link_up: link_up.flag()?,
         };
         self.transact(case.alloc, transaction)
     }
@@ -73,9 +71,27 @@ impl Carried {
         let [command, link_up, size, seed] = case.fields::<4>()?;
         let bytes = short_pattern(case.alloc, size.number()?, seed.number()?)?;
         let transaction = Transaction {
-            command: command.number()?,
+            attributes: uncoded(command, link_up)?,
             bytes: &bytes,
-            link_up: link_up.flag()?,
+        };
+        self.transact(case.alloc, transaction)
+    }
+
+    pub(crate) fn send_coded(&mut self, case: &Case) -> Answer {
+        let [address, command, link_up, data, code] = case.fields::<5>()?;
+        let transaction = Transaction {
+            attributes: coded(address, command, link_up, code)?,
+            bytes: data.bytes(),
+        };
+        self.transact(case.alloc, transaction)
+    }
+
+    pub(crate) fn send_coded_pattern(&mut self, case: &Case) -> Answer {
+        let [address, command, link_up, size, seed, code] = case.fields::<6>()?;
+        let bytes = short_pattern(case.alloc, size.number()?, seed.number()?)?;
+        let transaction = Transaction {
+            attributes: coded(address, command, link_up, code)?,
+            bytes: &bytes,
         };
         self.transact(case.alloc, transaction)
     }
@@ -114,10 +130,25 @@ impl Carried {
     }
 }
 
-// A pattern of at most MAX_PATTERN bytes.
-fn short_pattern(alloc: Global, size: u16, seed: u8) -> Result<Vec<u8>, CaseError> {
-    if size > MAX_PATTERN {
-        return Err(CaseError::NotACase);
-    }
-    Ok(pattern(alloc, size, seed)?)
+fn uncoded(command: &Field, link_up: &Field) -> Result<Attributes, CaseError> {
+    Ok(Attributes {
+        address: 0,
+        command: command.number()?,
+        code: 0,
+        link_up: link_up.flag()?,
+    })
+}
+
+fn coded(
+    address: &Field,
+    command: &Field,
+    link_up: &Field,
+    code: &Field,
+) -> Result<Attributes, CaseError> {
+    Ok(Attributes {
+        address: address.number()?,
+        command: command.number()?,
+        code: code.number()?,
+        link_up: link_up.flag()?,
+    })
 }

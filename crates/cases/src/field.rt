@@ -59,10 +59,12 @@ impl Field {
 }
 
 fn state_of(bytes: &[u8]) -> Option<State> {
-    let (account, maximum) = bytes.split_last_chunk()?;
+    let (check, numbers) = bytes.split_last()?;
+    let (account, maximum) = numbers.split_last_chunk()?;
     Some(State {
         account: account_of(account)?,
         maximum: u64::from_be_bytes(*maximum),
+        check: *check,
     })
 }
 

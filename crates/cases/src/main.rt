@@ -29,25 +29,35 @@
 //         DIGEST/4
 //     shown SIZE/2 SEED/1 LENGTH/8
 //         LENGTH/2 DIGEST/4
-//     sound-account ACCOUNT/256
+//     code ADDRESS/1 COMMAND/1 DATA
+//         ANSWER/1 CODE/1
+//     code-pattern ADDRESS/1 COMMAND/1 SIZE/2 SEED/1
+//         ANSWER/1 CODE/1
+//     crc START/1 BYTES
+//         BY_BITS/1 BY_TABLE/1
+//     sound-account ACCOUNT/280
 //         SOUND/flag
-//     fresh-state MAXIMUM/4
-//         ANSWER/1 STATE/264
-//     sound-state STATE/264
+//     fresh-state MAXIMUM/4 CHECK/flag
+//         ANSWER/1 STATE/289
+//     sound-state STATE/289
 //         SOUND/flag
-//     start STATE/264 STORE_SIZE/2 STORE_SEED/1 SETTINGS
+//     start STATE/289 STORE_SIZE/2 STORE_SEED/1 SETTINGS
 //         SOUND/flag
 //     send COMMAND/1 LINK/flag DATA
 //         ANSWER/1 SENT/2 STATE_DIGEST/4 STORE_DIGEST/4 SETTINGS_DIGEST/4
 //     send-pattern COMMAND/1 LINK/flag SIZE/2 SEED/1
 //         ANSWER/1 SENT/2 STATE_DIGEST/4 STORE_DIGEST/4 SETTINGS_DIGEST/4
+//     send-coded ADDRESS/1 COMMAND/1 LINK/flag DATA CODE/1
+//         ANSWER/1 SENT/2 STATE_DIGEST/4 STORE_DIGEST/4 SETTINGS_DIGEST/4
+//     send-coded-pattern ADDRESS/1 COMMAND/1 LINK/flag SIZE/2 SEED/1 CODE/1
+//         ANSWER/1 SENT/2 STATE_DIGEST/4 STORE_DIGEST/4 SETTINGS_DIGEST/4
 //     show
-//         STATE/264 SETTINGS
+//         STATE/289 SETTINGS
 //     packet LENGTH/8
 //         LENGTH/2 DIGEST/4
 //     journal PIECE/2 JOURNAL
 //         PRINTOUT
-//     print ACCOUNT/256 ROOM/2
+//     print ACCOUNT/280 ROOM/2
 //         LENGTH/2 BUFFER
 //
 // The media is 00 for copper and 01 for fibre, and the source 00 for nowhere, 01 for the settings
@@ -62,14 +72,20 @@
 // `fill` and `shown` is one. `fill` answers the digest of the store as it leaves it, and `shown`
 // the length and the digest of the part that is shown.
 //
-// An account is 32 numbers of eight bytes: the 27 of the grid, open fragments, open bytes, taken,
-// refused and total. A state is an account and the maximum behind it. `start` has the state, a
-// store, which is a pattern of at most 2048 bytes, and at most 64 bytes of settings carried from
-// there on. Before it they are 33 zeros and no bytes. `send` and `send-pattern`, whose data is a
-// pattern of at most 2048 bytes, do one transaction on what is carried, and the digests are those
-// after it. `show` and `packet` show what is carried.
+// `code` answers the packet error code of a transaction, with the answer 00, or 11 and 00 where it has
+// none. `crc` answers the code of any bytes, where that of the bytes before them is START: worked out
+// bit by bit, and by the table.
 //
-// A journal is fed in pieces of PIECE bytes, or whole where that is 0, and its outcome is printed.
+// An account is 35 numbers of eight bytes: the 30 of the grid, open fragments, open bytes, taken,
+// refused and total. A state is an account, then the maximum in eight bytes and the check in one.
+// `start` has the state, a store, which is a pattern of at most 2048 bytes, and at most 64 bytes of
+// settings carried from there on. Before it they are zeros and no bytes. `send` does one transaction
+// on what is carried, with the address and the code 00, and the digests are those after it.
+// `send-coded` does one with any of both. `show` and `packet` show what is carried. The data of an
+// operation whose name ends in `-pattern` is a pattern of at most 2048 bytes.
+//
+// A journal, of version 1 or 2, is fed in pieces of PIECE bytes, or whole where that is 0, and its
+// outcome is printed.
 // `print` prints into a buffer of ROOM bytes, at most 2048, which is a pattern with the seed aa
 // before.
 //
@@ -79,6 +95,7 @@
 
 mod carried;
 mod case;
+mod check_code;
 mod digest;
 mod field;
 mod link;
@@ -161,12 +178,17 @@ fn answer(case: &Case, carried: &mut Carried) -> Answer {
         b"ipv4" => receive_settings::in_force(case, Address::Ipv4),
         b"fill" => store::fill(case),
         b"shown" => store::shown(case),
+        b"code" => check_code::code(case),
+        b"code-pattern" => check_code::code_pattern(case),
+        b"crc" => check_code::crc(case),
         b"sound-account" => states::sound_account(case),
         b"fresh-state" => states::fresh(case),
         b"sound-state" => states::sound(case),
         b"start" => carried.start(case),
         b"send" => carried.send(case),
         b"send-pattern" => carried.send_pattern(case),
+        b"send-coded" => carried.send_coded(case),
+        b"send-coded-pattern" => carried.send_coded_pattern(case),
         b"show" => carried.show(case),
         b"packet" => carried.packet(case),
         b"journal" => printed::journal(case),

@@ -15,8 +15,8 @@ pub(crate) fn sound(case: &Case) -> Answer {
 }
 
 pub(crate) fn fresh(case: &Case) -> Answer {
-    let [maximum] = case.fields::<1>()?;
-    let made = state::fresh(maximum.number()?);
+    let [maximum, check] = case.fields::<2>()?;
+    let made = state::fresh(maximum.number()?, check.flag()?);
     let answer = made.answer;
     let bytes = bytes_of(case.alloc, made.state)?;
     let state = encode_field(case.alloc, &bytes)?;
@@ -34,11 +34,13 @@ pub(crate) fn bytes_of(alloc: Global, state: State) -> Result<Vec<u8>, AllocErro
         beside.total,
         state.maximum,
     ];
-    state
+    let mut bytes: Vec<u8> = state
         .account
         .grid
         .iter()
         .chain(others.iter())
         .flat_map(|number| number.to_be_bytes())
-        .collect(alloc)
+        .collect(alloc)?;
+    bytes.extend_from_slice(&[state.check])?;
+    Ok(bytes)
 }

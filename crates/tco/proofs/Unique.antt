@@ -12,6 +12,8 @@ use Rattle.tco.proofs.tco_fresh_state.Kinds as fresh-state-kinds
 use Rattle.tco.proofs.tco_fresh_state.Reads as fresh-state-reads
 use Rattle.tco.proofs.tco_fresh_settings.Kinds as fresh-settings-kinds
 use Rattle.tco.proofs.tco_fresh_settings.Reads as fresh-settings-reads
+use Rattle.tco.proofs.tco_check_code.Kinds as check-code-kinds
+use Rattle.tco.proofs.tco_check_code.Reads as check-code-reads
 use Rattle.tco.proofs.tco_shown.Kinds as shown_kinds
 use Rattle.tco.proofs.tco_shown.Reads as shown_reads
 use Rattle.tco.proofs.tco_mac_in_force.Kinds as mac-in-force-kinds
@@ -33,6 +35,9 @@ fresh-state-unique κs a r₁ r₂ w₁ w₂ p q = (one-result p q, refl)
 
 pub fresh-settings-unique : OneResult 1 fresh-settings-kinds.ps fresh-settings-kinds.r fresh-settings-reads.Learnt
 fresh-settings-unique κs a r₁ r₂ w₁ w₂ p q = (ap (λ (x : Answered ℕ). x.answer) (one-result p q), ap (λ (x : Answered ℕ). (x.settings, tt)) (one-result p q))
+
+pub check-code-unique : OneResult 1 check-code-kinds.ps check-code-kinds.r check-code-reads.Learnt
+check-code-unique κs a r₁ r₂ w₁ w₂ p q = (one-result p q, refl)
 
 pub shown-unique : OneResult 1 shown_kinds.ps shown_kinds.r shown_reads.Learnt
 shown-unique κs a r₁ r₂ w₁ w₂ p q = (one-result p q, refl)

@@ -1,3 +1,4 @@
+pub mod Code
 pub mod Link
 pub mod Part
 pub mod Properties

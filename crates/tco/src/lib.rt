@@ -9,13 +9,14 @@ ghost use Rattle.record.specs.Transaction.{transaction};
 ghost use Rattle.settings.specs.Enable.{answered, freshened, freshened_in_numbers};
 ghost use Rattle.state.specs.State.{made};
 ghost use Rattle.tco.specs.Reply.{InPlace};
+ghost use Rattle.tco.specs.Code.{check_code};
 ghost use Rattle.tco.specs.Part.{shown_length, part_from, mac_in_force, ipv4_in_force};
 ghost use Rattle.tco.specs.Link.{decided_over};
 ghost use Rattle.tco.specs.Status.{written_in_numbers, read_in_numbers};
 
 use address::{Address, Source};
-use outcome::Reply;
-use record::Transaction;
+use outcome::{Outcome, Reply};
+use record::{Attributes, Transaction};
 use setlink::{Decision, FAILED, INVALID_PARAMETER, Media};
 use state::{Account, Made, State};
 use status::{BLOCK_SIZE, Fields};
@@ -48,6 +49,15 @@ pub struct StatusRead {
     pub answer: u32,
     pub field: u32,
     pub fields: Fields,
+}
+
+// The code of a transaction, 0 where it has none. A number for the answer and no Option: C sees this
+// struct.
+#[repr(C)]
+#[derive(Clone, Copy)]
+pub struct CheckCode {
+    pub answer: u32,
+    pub code: u8,
 }
 
 // Where an address starts in the settings and in Flash, and its size.
@@ -83,12 +93,12 @@ const IPV4: Place = Place {
     size: IPV4_SIZE,
 };
 
-// A fresh state for fragments of at most `maximum` data bytes.
+// A fresh state for fragments of at most `maximum` data bytes, with the check on or off.
 #[unsafe(no_mangle)]
-pub extern "C" fn tco_fresh_state(maximum: u32) -> Made
-    ensures { result ≡ made maximum }
+pub extern "C" fn tco_fresh_state(maximum: u32, check: bool) -> Made
+    ensures { result ≡ made maximum check }
 {
-    state::fresh(maximum)
+    state::fresh(maximum, check)
 }
 
 // Writes fresh settings. Answers a number, which is what C can be told.
@@ -105,20 +115,34 @@ pub extern "C" fn tco_transact(
     state: &mut State,
     store: &mut [u8],
     settings: &mut [u8],
-    command: u8,
+    attributes: Attributes,
     bytes: &[u8],
-    link_up: bool,
 ) -> Reply
-    ensures { InPlace state.old store.old settings.old (transaction command bytes.now link_up) state.new result store.new settings.new }
+    ensures { InPlace state.old store.old settings.old (transaction attributes bytes.now) state.new result store.new settings.new }
 {
-    let transaction = Transaction {
-        command,
-        bytes,
-        link_up,
-    };
+    let transaction = Transaction { attributes, bytes };
     let transacted = translator::transact(*state, store, settings, transaction);
-    *state = transacted.state;
+    state.account = transacted.state.account;
+    state.maximum = transacted.state.maximum;
+    state.check = transacted.state.check;
     Reply::from(transacted.outcome)
+}
+
+// The code of a transaction with this data, as tco_transact checks it.
+#[unsafe(no_mangle)]
+pub extern "C" fn tco_check_code(address: u8, command: u8, bytes: &[u8]) -> CheckCode
+    ensures { result ≡ check_code address command bytes.now }
+{
+    match pec::transaction_code(address, command, bytes) {
+        None => CheckCode {
+            answer: u32::from(Outcome::BadCheck),
+            code: 0,
+        },
+        Some(code) => CheckCode {
+            answer: state::DONE,
+            code,
+        },
+    }
 }
 
 // How many bytes to show, from the store's first on, where `asked` are asked for: that many, or 0
