@@ -7,7 +7,7 @@ pub const LONGEST_FRAGMENT: u64 = 240;
 pub const HIGHEST_TOTAL: u64 = 4_294_967_295;
 
 /// The rows of the grid.
-pub const FATES: usize = 9;
+pub const FATES: usize = 10;
 /// The columns of the grid.
 pub const COLUMNS: usize = 3;
 /// The numbers of an account.
@@ -29,7 +29,8 @@ pub enum Fate {
     Superseded,
     /// Ended by another command with F and L set.
     Flushed,
-    /// Ended by a fragment of a length that is not allowed.
+    /// Ended by a fragment of a length that is not allowed, or by a wrong check
+    /// byte.
     Broken,
     /// Discarded, its total too long.
     Over,
@@ -41,6 +42,20 @@ pub enum Fate {
     Aborted,
     /// A fragment of a length that is not allowed.
     BadLength,
+    /// A transaction of any command whose check byte is wrong.
+    BadCheck,
+}
+
+impl Fate {
+    /// Whether packets are counted under it.
+    pub fn has_packets(self) -> bool {
+        !matches!(self, Fate::Aborted | Fate::BadLength | Fate::BadCheck)
+    }
+
+    /// Whether bytes are counted under it.
+    pub fn has_bytes(self) -> bool {
+        !matches!(self, Fate::BadLength | Fate::BadCheck)
+    }
 }
 
 /// The rows of the grid in their order.
@@ -54,6 +69,7 @@ pub const ROWS: [Fate; FATES] = [
     Fate::LinkDown,
     Fate::Aborted,
     Fate::BadLength,
+    Fate::BadCheck,
 ];
 
 /// An account; any numbers may be handed in.
@@ -115,12 +131,10 @@ fn lines_sound(account: &Account) -> bool {
 
 /// Whether a row is sound whose fragments are at most the highest total.
 fn row_sound(fate: Fate, row: [u64; COLUMNS]) -> bool {
-    let has_packets = !matches!(fate, Fate::Aborted | Fate::BadLength);
-    let has_bytes = fate != Fate::BadLength;
     row[PACKETS] <= row[FRAGMENTS]
         && row[BYTES] <= LONGEST_FRAGMENT * row[FRAGMENTS]
-        && (has_packets || row[PACKETS] == 0)
-        && (has_bytes || row[BYTES] == 0)
+        && (fate.has_packets() || row[PACKETS] == 0)
+        && (fate.has_bytes() || row[BYTES] == 0)
 }
 
 /// Whether the open packet is sound whose fragments are at most the highest

@@ -12,6 +12,7 @@ use reference::settings::{self, AddressInForce};
 use reference::status::{self, StatusData};
 
 use self::carried::{Carried, Disagreement};
+use self::transactions::{given, limited_pattern};
 use crate::text::{Fields, Line, NotACase, LONGEST_LINE};
 
 const DIGEST_START: u64 = 1;
@@ -100,8 +101,13 @@ fn answer_case(carried: &mut Carried, case: &str) -> Result<String, Stopped> {
         "fresh-state" => transactions::fresh_state(fields)?,
         "sound-state" => transactions::sound_state(fields)?,
         "start" => transactions::start(carried, fields)?,
-        "send" => transactions::send(carried, fields)?,
-        "send-pattern" => transactions::send_pattern(carried, fields)?,
+        "code" => transactions::code(fields, given)?,
+        "code-pattern" => transactions::code(fields, limited_pattern)?,
+        "crc" => transactions::crc(fields)?,
+        "send" => transactions::send(carried, fields, given)?,
+        "send-pattern" => transactions::send(carried, fields, limited_pattern)?,
+        "send-coded" => transactions::send_coded(carried, fields, given)?,
+        "send-coded-pattern" => transactions::send_coded(carried, fields, limited_pattern)?,
         "show" => transactions::show(carried, fields)?,
         "packet" => transactions::packet(carried, fields)?,
         "journal" => journals::journal(fields)?,

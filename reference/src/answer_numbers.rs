@@ -53,3 +53,7 @@ pub const STATUS_NOT_ALLOWED: u8 = 15;
 
 /// The fragment maximum is not allowed.
 pub const MAXIMUM_NOT_ALLOWED: u8 = 16;
+
+/// The check byte is not that of the transaction, or there is none for so many
+/// data bytes.
+pub const BAD_CHECK: u8 = 17;

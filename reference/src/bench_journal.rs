@@ -2,10 +2,14 @@
 
 use std::io::{self, Write};
 
+use crate::journal_writer::JournalWriter;
 use crate::random::Random;
-use reference::journal::HEADER_START;
+use reference::journal::Version;
+use reference::pec;
 use reference::settings::{LONG_FORM_BYTES, SHORT_FORM_BYTES};
-use reference::translator::{FIRST, LAST, LAST_FRAGMENT, MIDDLE_FRAGMENT, RECEIVE_ENABLE};
+use reference::translator::{
+    Transaction, FIRST, LAST, LAST_FRAGMENT, MIDDLE_FRAGMENT, RECEIVE_ENABLE,
+};
 
 const SEED: u64 = 0x000b_e7c4;
 
@@ -14,10 +18,22 @@ const PACKET_BYTES: u64 = 1440;
 const SPREAD: u64 = 96;
 const LONGEST_ABORTED: u64 = 20;
 const CONTROLS: [u8; 6] = [0x40, 0x41, 0x49, 0x61, 0xc1, 0xc9];
+/// The address byte of every record that has one.
+const ADDRESS: u8 = 0x92;
+
+/// What stands behind the name of a kind of journals with check bytes.
+const CHECKED: &str = "-checked";
+
+/// A kind of journals.
+#[derive(Clone, Copy, Debug, PartialEq, Eq)]
+pub struct Kind {
+    content: Content,
+    version: Version,
+}
 
 /// What a journal is full of.
 #[derive(Clone, Copy, Debug, PartialEq, Eq)]
-pub enum Kind {
+enum Content {
     /// Packets in fragments of so many bytes.
     Fragments(u8),
     /// Receive Enables of both forms, and aborted fragments.
@@ -27,18 +43,23 @@ pub enum Kind {
 impl Kind {
     /// The kind of this name.
     pub fn named(name: &str) -> Option<Kind> {
-        match name {
-            "fragments-240" => Some(Kind::Fragments(240)),
-            "fragments-20" => Some(Kind::Fragments(20)),
-            "commands" => Some(Kind::Commands),
-            _ => None,
-        }
+        let (content, version) = match name.strip_suffix(CHECKED) {
+            Some(content) => (content, Version::Checked),
+            None => (name, Version::Unchecked),
+        };
+        let content = match content {
+            "fragments-240" => Content::Fragments(240),
+            "fragments-20" => Content::Fragments(20),
+            "commands" => Content::Commands,
+            _ => return None,
+        };
+        Some(Kind { content, version })
     }
 
     fn maximum(self) -> u8 {
-        match self {
-            Kind::Fragments(size) => size,
-            Kind::Commands => 240,
+        match self.content {
+            Content::Fragments(size) => size,
+            Content::Commands => 240,
         }
     }
 }
@@ -47,23 +68,23 @@ impl Kind {
 /// command.
 pub fn write(kind: Kind, bytes: u64, output: &mut impl Write) -> io::Result<()> {
     let mut random = Random::new(SEED);
-    let mut journal = [&HEADER_START[..], &[kind.maximum()]].concat();
+    let mut journal = JournalWriter::new(kind.version, kind.maximum());
     let mut written = 0;
     loop {
-        output.write_all(&journal)?;
-        written += journal.len() as u64;
+        output.write_all(&journal.bytes)?;
+        written += journal.bytes.len() as u64;
         if written >= bytes {
             return Ok(());
         }
-        journal.clear();
-        match kind {
-            Kind::Fragments(size) => packet(&mut journal, &mut random, u64::from(size)),
-            Kind::Commands => command(&mut journal, &mut random),
+        journal.bytes.clear();
+        match kind.content {
+            Content::Fragments(size) => packet(&mut journal, &mut random, u64::from(size)),
+            Content::Commands => command(&mut journal, &mut random),
         }
     }
 }
 
-fn packet(journal: &mut Vec<u8>, random: &mut Random, size: u64) {
+fn packet(journal: &mut JournalWriter, random: &mut Random, size: u64) {
     let mut left = PACKET_BYTES - SPREAD + random.below(2 * SPREAD + 1);
     let mut flags = FIRST;
     while left > 0 {
@@ -78,7 +99,7 @@ fn packet(journal: &mut Vec<u8>, random: &mut Random, size: u64) {
 }
 
 /// No packet is ever open, so that each fragment aborts.
-fn command(journal: &mut Vec<u8>, random: &mut Random) {
+fn command(journal: &mut JournalWriter, random: &mut Random) {
     if random.one_in(3) {
         let command = random.pick(&[MIDDLE_FRAGMENT, LAST_FRAGMENT]);
         let length = 1 + random.below(LONGEST_ABORTED);
@@ -90,9 +111,7 @@ fn command(journal: &mut Vec<u8>, random: &mut Random) {
     record(journal, RECEIVE_ENABLE, &data);
 }
 
-fn record(journal: &mut Vec<u8>, command: u8, data: &[u8]) {
-    const LINK_UP: u8 = 1;
-    // No data is longer than a fragment of 240 bytes.
-    journal.extend([command, LINK_UP, data.len() as u8]);
-    journal.extend(data);
+fn record(journal: &mut JournalWriter, command: u8, data: &[u8]) {
+    let (address, (_, code)) = (ADDRESS, pec::code(ADDRESS, command, data));
+    journal.record(Transaction { address, command, code, link_up: true }, data);
 }

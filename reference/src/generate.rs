@@ -1,6 +1,7 @@
 //! Generates cases, the same ones in every run.
 
 mod account;
+mod codes;
 mod controller;
 mod journals;
 mod lists;
@@ -18,11 +19,12 @@ use crate::text::Line;
 type Subject = (&'static str, fn(&mut Cases));
 
 /// The subjects in the order of their cases.
-const SUBJECTS: [Subject; 10] = [
+const SUBJECTS: [Subject; 11] = [
     ("setlink", setlink::generate),
     ("status", status::generate),
     ("settings", settings::generate),
     ("packet", packet::generate),
+    ("codes", codes::generate),
     ("account", account::generate),
     ("state", state::generate),
     ("transactions", transactions::generate),

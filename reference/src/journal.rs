@@ -2,23 +2,44 @@
 //!
 //! A journal is a header and records. The header is "TCO", the version in 16
 //! bits low byte first, and the fragment maximum as a byte. A record is a
-//! command, the link and a length, a byte each, and that many bytes of data.
+//! command, the link and a length, a byte each, and that many bytes of data. In
+//! version 2 the address byte stands before them and the check byte behind them.
 
 use crate::account::Account;
 use crate::answer_numbers::DONE;
 use crate::packet::LONGEST_PACKET;
 use crate::settings::{FRESH_SETTINGS, SETTINGS_BYTES};
-use crate::state::{self, State};
-use crate::translator;
+use crate::state::{self, State, CHECK_ON};
+use crate::translator::{self, Transaction};
 
-/// What every header begins with: its name and version 1.
-pub const HEADER_START: [u8; 5] = *b"TCO\x01\x00";
-/// The size of a header: its start and the maximum.
-pub const HEADER_BYTES: usize = HEADER_START.len() + 1;
-/// The size of a record without its data.
-pub const RECORD_HEAD_BYTES: usize = 3;
-/// The size of the longest record, which is longer than a header.
-const LONGEST_RECORD: usize = RECORD_HEAD_BYTES + u8::MAX as usize;
+/// The size of a header: its name, the version and the maximum.
+pub const HEADER_BYTES: usize = 6;
+/// The size of the longest record, one with address and check byte. It is longer
+/// than a header.
+pub const LONGEST_RECORD: usize = 4 + u8::MAX as usize + 1;
+
+const NAME: [u8; 3] = *b"TCO";
+
+/// What a record of a journal holds, by the version in its header.
+#[derive(Clone, Copy, Debug, PartialEq, Eq)]
+pub enum Version {
+    /// Neither address nor check byte; it is read with the check off.
+    Unchecked = 1,
+    /// Both of them; it is read with the check on.
+    Checked = 2,
+}
+
+/// Both versions.
+pub const VERSIONS: [Version; 2] = [Version::Unchecked, Version::Checked];
+
+impl Version {
+    /// The header of a journal of this version, for a maximum.
+    pub fn header(self, maximum: u8) -> [u8; HEADER_BYTES] {
+        let [t, c, o] = NAME;
+        let [low, high] = (self as u16).to_le_bytes();
+        [t, c, o, low, high, maximum]
+    }
+}
 
 /// A journal that is being read.
 pub struct Replay {
@@ -81,6 +102,11 @@ impl Replay {
         whole.then_some(self.known.state.account)
     }
 
+    /// Whether the pieces so far make any journal bad, whatever comes behind them.
+    pub fn is_bad(&self) -> bool {
+        self.known.stage == Stage::Bad
+    }
+
     fn hold(&mut self, bytes: &[u8]) {
         self.held[self.held_bytes..][..bytes.len()].copy_from_slice(bytes);
         self.held_bytes += bytes.len();
@@ -105,21 +131,26 @@ impl Known {
     }
 
     fn header(&mut self, bytes: &[u8]) -> Option<usize> {
-        let (maximum, start) = bytes.get(..HEADER_BYTES)?.split_last()?;
-        let (answer, state) = state::fresh(u32::from(*maximum));
-        let good = start == HEADER_START && answer == DONE;
-        self.stage = if good { Stage::Records } else { Stage::Bad };
-        self.state = state;
+        let header = bytes.get(..HEADER_BYTES)?;
+        let maximum = header[HEADER_BYTES - 1];
+        self.stage = Stage::Bad;
+        if let Some(version) = VERSIONS.iter().find(|version| version.header(maximum) == header) {
+            let check = *version == Version::Checked;
+            let (answer, state) = state::fresh(u32::from(maximum), check);
+            self.state = state;
+            if answer == DONE {
+                self.stage = Stage::Records;
+            }
+        }
         Some(HEADER_BYTES)
     }
 
     fn record(&mut self, bytes: &[u8]) -> Option<usize> {
-        let (command, link, length, rest) = match bytes {
-            [command, link, length, rest @ ..] => (*command, *link, *length, rest),
-            _ => return None,
-        };
-        let data = rest.get(..usize::from(length))?;
-        let link_up = match link {
+        let mut rest = bytes;
+        let checked = self.state.check == CHECK_ON;
+        let address = if checked { taken(&mut rest, 1)?[0] } else { 0 };
+        let command = taken(&mut rest, 1)?[0];
+        let link_up = match taken(&mut rest, 1)?[0] {
             0 => false,
             1 => true,
             _ => {
@@ -127,10 +158,21 @@ impl Known {
                 return Some(bytes.len());
             }
         };
+        let length = taken(&mut rest, 1)?[0];
+        let data = taken(&mut rest, usize::from(length))?;
+        let code = if checked { taken(&mut rest, 1)?[0] } else { 0 };
         // Its answer is nobody's concern: what was counted stands in the
         // account, and a full one stays as it is.
         let Known { state, store, settings, .. } = self;
-        translator::transact(state, store, settings, command, data, link_up);
-        Some(RECORD_HEAD_BYTES + data.len())
+        let transaction = Transaction { address, command, code, link_up };
+        translator::transact(state, store, settings, transaction, data);
+        Some(bytes.len() - rest.len())
     }
+}
+
+/// Takes so many bytes off the front; nothing where there are fewer.
+fn taken<'a>(rest: &mut &'a [u8], size: usize) -> Option<&'a [u8]> {
+    let front = rest.get(..size)?;
+    *rest = &rest[size..];
+    Some(front)
 }

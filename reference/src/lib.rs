@@ -13,6 +13,7 @@ pub mod history;
 pub mod journal;
 pub mod listing;
 pub mod packet;
+pub mod pec;
 pub mod printout;
 pub mod random;
 pub mod setlink;

@@ -20,12 +20,17 @@
 //! | `ipv4 SETTINGS FLASH` | `SOURCE/1 PART` |
 //! | `fill SIZE/2 SEED/1 LENGTH/8` | `DIGEST/4` |
 //! | `shown SIZE/2 SEED/1 LENGTH/8` | `LENGTH/2 DIGEST/4` |
+//! | `crc START/1 BYTES` | `BY_BITS/1 BY_TABLE/1` |
+//! | `code ADDRESS/1 COMMAND/1 DATA` | `ANSWER/1 CODE/1` |
+//! | `code-pattern ADDRESS/1 COMMAND/1 SIZE/2 SEED/1` | as for `code` |
 //! | `sound-account ACCOUNT` | `SOUND/1` |
-//! | `fresh-state MAXIMUM/4` | `ANSWER/1 STATE` |
+//! | `fresh-state MAXIMUM/4 CHECK/1` | `ANSWER/1 STATE` |
 //! | `sound-state STATE` | `SOUND/1` |
 //! | `start STATE STORE_SIZE/2 STORE_SEED/1 SETTINGS` | `SOUND/1` |
 //! | `send COMMAND/1 LINK/1 DATA` | `ANSWER/1 SENT/2 DIGEST/4 DIGEST/4 DIGEST/4` |
 //! | `send-pattern COMMAND/1 LINK/1 SIZE/2 SEED/1` | as for `send` |
+//! | `send-coded ADDRESS/1 COMMAND/1 LINK/1 DATA CODE/1` | as for `send` |
+//! | `send-coded-pattern ADDRESS/1 COMMAND/1 LINK/1 SIZE/2 SEED/1 CODE/1` | as for `send` |
 //! | `show` | `STATE SETTINGS` |
 //! | `packet LENGTH/8` | `LENGTH/2 DIGEST/4` |
 //! | `journal PIECE/2 JOURNAL` | `PRINTOUT` |
@@ -44,28 +49,36 @@
 //! A pattern of a size and a seed has the byte (seed + 7 * i) mod 256 at place
 //! i. `fill` and `shown` work on a store of that pattern; `fill` answers with
 //! the digest of the whole store afterwards, `shown` with the length and the
-//! digest of the part. ACCOUNT is 256 bytes: 32 numbers of eight bytes, which
-//! are the nine rows of packets, fragments and bytes (sent, superseded, flushed,
-//! broken, over, short, linkdown, aborted, badlength), open fragments, open
-//! bytes, taken, refused and total. STATE is 264 bytes: those of the account,
-//! then the maximum as a number of eight bytes.
+//! digest of the part. ACCOUNT is 280 bytes: 35 numbers of eight bytes, which
+//! are the ten rows of packets, fragments and bytes (sent, superseded, flushed,
+//! broken, over, short, linkdown, aborted, badlength, badcheck), open fragments,
+//! open bytes, taken, refused and total. STATE is 289 bytes: those of the
+//! account, then the maximum as a number of eight bytes and the check, 00 or 01
+//! where it is sound.
+//!
+//! `crc` takes the rest of any bytes from any start, bit by bit and by the table.
+//! `code` gives the check byte of a transaction, `code-pattern` the same for data
+//! of a pattern of at most 2048 bytes; it is compared with the long division of
+//! the history, and the program stops if they disagree.
 //!
 //! `start` gives the state, a store of a pattern of at most 2048 bytes and at
 //! most 64 bytes of settings that are carried from there on; before it they are
-//! 33 zeros and no bytes. `send` does one transaction on them, `send-pattern`
-//! the same with data of a pattern of at most 2048 bytes; the three digests are
-//! those of the state, the store and the settings afterwards. `show` shows the
-//! state and the settings that are carried, `packet` what is shown of the
-//! store. Where the state that was given was fresh, every transaction is
-//! compared with the history, and the program stops if they disagree.
+//! zeros and no bytes. `send` does one transaction on them, with zeros in place
+//! of address and check byte, and `send-coded` one with these; `send-pattern` and
+//! `send-coded-pattern` do the same with data of a pattern of at most 2048 bytes.
+//! The three digests are those of the state, the store and the settings
+//! afterwards. `show` shows the state and the settings that are carried, `packet`
+//! what is shown of the store. Where the state that was given was fresh, every
+//! transaction is compared with the history, and the program stops if they
+//! disagree.
 //!
-//! `journal` reads a journal in pieces of PIECE bytes, of which the last may be
-//! shorter, or whole where PIECE is zero; the answer is all that is printed of
-//! it. It is compared with the history of the journal's list, and the program
-//! stops if they disagree. `print` prints an account into a buffer of ROOM
-//! bytes, at most 2048, that has the pattern of the seed aa before; the answer
-//! is the length of the printout, zero where nothing is printed, and the whole
-//! buffer afterwards.
+//! `journal` reads a journal of either version in pieces of PIECE bytes, of
+//! which the last may be shorter, or whole where PIECE is zero; the answer is
+//! all that is printed of it. It is compared with the history of the journal's
+//! list, and the program stops if they disagree. `print` prints an account into
+//! a buffer of ROOM bytes, at most 2048, that has the pattern of the seed aa
+//! before; the answer is the length of the printout, zero where nothing is
+//! printed, and the whole buffer afterwards.
 //!
 //! A digest starts from 1 and becomes (257 * digest + byte) mod 4294967291 with
 //! each byte.
@@ -75,6 +88,7 @@
 mod answer;
 mod bench_journal;
 mod generate;
+mod journal_writer;
 mod pattern;
 mod print_account;
 mod text;
@@ -98,13 +112,14 @@ usage: reference generate [SUBJECT]
 
 const HELP: &str = "
 generate       prints all test cases, or those of a subject: setlink, status,
-               settings, packet, account, state, transactions, lists,
+               settings, packet, codes, account, state, transactions, lists,
                journals, printouts
 answer         reads test cases on standard input and prints their answers
 account        reads a journal, from standard input where no file is named, and
                prints its account, or `bad journal` alone
 bench-journal  prints a journal of about so many bytes to measure with; KIND is
-               fragments-240, fragments-20 or commands
+               fragments-240, fragments-20 or commands, with -checked behind it
+               where records have address and check byte
 
 Exit status: 0 if all went well; 1 if a journal is bad, a line is no test case,
 or something cannot be read or written, which is told on standard error; 2 for

@@ -18,6 +18,7 @@ const NAMES: [&str; FATES] = [
     "linkdown",
     "aborted",
     "badlength",
+    "badcheck",
 ];
 
 const LINES: usize = FATES + 5;

@@ -2,6 +2,8 @@
 
 use std::str::Split;
 
+use reference::state::State;
+
 /// The longest line, without its line feed.
 pub const LONGEST_LINE: usize = 8000;
 
@@ -63,6 +65,11 @@ impl Line {
     /// Adds numbers of eight bytes as one byte string.
     pub fn numbers(self, numbers: &[u64]) -> Line {
         self.bytes(&bytes_of(numbers))
+    }
+
+    /// Adds a state.
+    pub fn state(self, state: &State) -> Line {
+        self.bytes(&bytes_of_state(state))
     }
 
     /// Adds a bool.
@@ -151,8 +158,15 @@ impl<'a> Fields<'a> {
 }
 
 /// The bytes of numbers of eight bytes, one after the other.
-pub fn bytes_of(numbers: &[u64]) -> Vec<u8> {
+fn bytes_of(numbers: &[u64]) -> Vec<u8> {
     numbers.iter().flat_map(|number| number.to_be_bytes()).collect()
+}
+
+/// The bytes of the numbers of a state, then its check.
+pub fn bytes_of_state(state: &State) -> Vec<u8> {
+    let mut bytes = bytes_of(&state.numbers());
+    bytes.push(state.check);
+    bytes
 }
 
 fn digit(character: u8) -> Result<u8, NotACase> {

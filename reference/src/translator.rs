@@ -2,12 +2,14 @@
 
 use crate::account::{Account, Fate, BYTES, FRAGMENTS, HIGHEST_TOTAL, PACKETS};
 use crate::answer_numbers::{
-    ABORTED, ACCOUNT_FULL, FRAGMENT_LENGTH, JOINED, LINK_DOWN, NOT_SOUND, PACKET_SENT,
-    PACKET_TOO_LONG, PACKET_TOO_SHORT, RECEIVE_ENABLE_TAKEN, TOO_SHORT, UNKNOWN_COMMAND,
+    ABORTED, ACCOUNT_FULL, BAD_CHECK, DONE, FRAGMENT_LENGTH, JOINED, LINK_DOWN, NOT_SOUND,
+    PACKET_SENT, PACKET_TOO_LONG, PACKET_TOO_SHORT, RECEIVE_ENABLE_TAKEN, TOO_SHORT,
+    UNKNOWN_COMMAND,
 };
 use crate::packet::{self, LONGEST_PACKET, SHORTEST_SENT};
+use crate::pec;
 use crate::settings::{self, SETTINGS_BYTES};
-use crate::state::{self, State};
+use crate::state::{self, State, CHECK_ON};
 
 /// The shortest packet that can be sent.
 pub const SHORTEST_PACKET: u64 = 17;
@@ -56,15 +58,27 @@ const CLASS_OF: [Class; 256] = {
     class_of
 };
 
+/// A transaction but for its data.
+#[derive(Clone, Copy, Debug, PartialEq, Eq)]
+pub struct Transaction {
+    /// The address byte that it came under; without the check it is not read.
+    pub address: u8,
+    /// Its command byte.
+    pub command: u8,
+    /// Its check byte; without the check it is not read.
+    pub code: u8,
+    /// Whether the link was up at that moment.
+    pub link_up: bool,
+}
+
 /// Does one transaction: the answer, and the sent length, which is zero unless
 /// a packet is sent.
 pub fn transact(
     state: &mut State,
     store: &mut [u8],
     settings: &mut [u8],
-    command: u8,
+    transaction: Transaction,
     data: &[u8],
-    link_up: bool,
 ) -> (u8, u16) {
     if (store.len() as u64) < LONGEST_PACKET || settings.len() < SETTINGS_BYTES {
         return (TOO_SHORT, 0);
@@ -72,30 +86,38 @@ pub fn transact(
     if !state::is_sound(state) || !settings::is_sound(settings) {
         return (NOT_SOUND, 0);
     }
-    let State { account, maximum } = state;
+    let State { account, maximum, check } = state;
     if account.total == HIGHEST_TOTAL {
         return (ACCOUNT_FULL, 0);
     }
     account.total += 1;
-    match CLASS_OF[usize::from(command)] {
-        Class::Fragment => fragment(account, *maximum, store, command, data, link_up),
-        Class::ReceiveEnable => (receive_enable(account, settings, data), 0),
-        Class::Unknown => (unknown(account, command), 0),
+    if *check == CHECK_ON && !code_right(transaction, data) {
+        not_received(account, Fate::BadCheck);
+        return (BAD_CHECK, 0);
     }
+    match CLASS_OF[usize::from(transaction.command)] {
+        Class::Fragment => fragment(account, *maximum, store, transaction, data),
+        Class::ReceiveEnable => (receive_enable(account, settings, data), 0),
+        Class::Unknown => (unknown(account, transaction.command), 0),
+    }
+}
+
+fn code_right(transaction: Transaction, data: &[u8]) -> bool {
+    let Transaction { address, command, code, .. } = transaction;
+    pec::code(address, command, data) == (DONE, code)
 }
 
 fn fragment(
     account: &mut Account,
     maximum: u64,
     store: &mut [u8],
-    command: u8,
+    transaction: Transaction,
     data: &[u8],
-    link_up: bool,
 ) -> (u8, u16) {
+    let Transaction { command, link_up, .. } = transaction;
     let bytes = data.len() as u64;
     if bytes == 0 || bytes > maximum {
-        end_packet(account, Fate::Broken);
-        count_fragment(account, Fate::BadLength, 0);
+        not_received(account, Fate::BadLength);
         return (FRAGMENT_LENGTH, 0);
     }
     if command & FIRST != 0 {
@@ -154,6 +176,13 @@ fn unknown(account: &mut Account, command: u8) -> u8 {
     UNKNOWN_COMMAND
 }
 
+/// Breaks the open packet, if there is one, by a transaction that was not
+/// received correctly, which is counted without its bytes.
+fn not_received(account: &mut Account, fate: Fate) {
+    end_packet(account, Fate::Broken);
+    count_fragment(account, fate, 0);
+}
+
 /// Moves the open packet, if there is one, into the row of its fate.
 fn end_packet(account: &mut Account, fate: Fate) {
     if account.open_fragments == 0 {
@@ -167,7 +196,7 @@ fn end_packet(account: &mut Account, fate: Fate) {
     account.open_bytes = 0;
 }
 
-/// Counts a fragment that belongs to no packet.
+/// Counts a transaction that belongs to no packet.
 fn count_fragment(account: &mut Account, fate: Fate, bytes: u64) {
     let row = &mut account.grid[fate as usize];
     row[FRAGMENTS] += 1;

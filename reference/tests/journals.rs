@@ -4,6 +4,7 @@
 use reference::account::{is_sound, Account, Fate, HIGHEST_TOTAL, NUMBERS, ROWS};
 use reference::journal::Replay;
 use reference::listing::Listing;
+use reference::pec;
 use reference::printout::{print, ENOUGH_ROOM};
 use reference::random::Random;
 use reference::state::fresh;
@@ -19,21 +20,36 @@ short 1 2 15
 linkdown 0 0 0
 aborted 0 1 3
 badlength 0 0 0
+badcheck 0 0 0
 open 0 0 0
 taken 1
 refused 0
 total 6
 ";
 
+/// The versions of journals.
+const VERSIONS: [u8; 2] = [1, 2];
+
+const ADDRESS: u8 = 0x92;
+
 /// The journal of the example.
-fn example() -> Vec<u8> {
-    let mut journal = b"TCO\x01\x00\x20".to_vec();
+fn example(version: u8) -> Vec<u8> {
+    let mut journal = vec![b'T', b'C', b'O', version, 0, 32];
     for (command, length) in [(0xc4, 20), (0x84, 32), (0x84, 10), (0x44, 5), (0x04, 3)] {
-        journal.extend([command, 1, length]);
-        journal.extend((0..length).map(|place| place + 1));
+        let data: Vec<u8> = (0..length).map(|place| place + 1).collect();
+        journal.extend(record(version, command, 1, &data));
     }
-    journal.extend([0xca, 1, 1, 0x41]);
+    journal.extend(record(version, 0xca, 1, &[0x41]));
     journal
+}
+
+/// A record, in version 2 with its right check byte.
+fn record(version: u8, command: u8, link: u8, data: &[u8]) -> Vec<u8> {
+    let record = [&[command, link, data.len() as u8], data].concat();
+    if version == 1 {
+        return record;
+    }
+    [&[ADDRESS], &record[..], &[pec::code(ADDRESS, command, data).1]].concat()
 }
 
 fn in_pieces<'a>(pieces: impl IntoIterator<Item = &'a [u8]>) -> Option<Account> {
@@ -57,30 +73,103 @@ fn printed(account: &Account) -> String {
 
 #[test]
 fn the_example() {
-    let journal = example();
-    for size in 1..=journal.len() + 1 {
-        let account = in_pieces(journal.chunks(size)).expect("a good journal");
-        assert_eq!(printed(&account), EXAMPLE, "pieces of {size}");
+    for version in VERSIONS {
+        let journal = example(version);
+        for size in 1..=journal.len() + 1 {
+            let account = in_pieces(journal.chunks(size)).expect("a good journal");
+            assert_eq!(printed(&account), EXAMPLE, "version {version}, pieces of {size}");
+        }
     }
+}
+
+/// Each record of the example with a wrong check byte, and all of them.
+#[test]
+fn the_example_with_wrong_check_bytes() {
+    let journal = example(2);
+    let ends = [31, 68, 83, 93, 101, 107];
+    assert_eq!(ends[5], journal.len());
+    let expected: [&[(&str, &str)]; 6] = [
+        &[("sent 1 1 20", "sent 0 0 0")],
+        &[("superseded 1 1 32", "superseded 0 0 0")],
+        &[
+            ("superseded 1 1 32", "superseded 0 0 0"),
+            ("broken 0 0 0", "broken 1 1 32"),
+            ("short 1 2 15", "short 0 0 0"),
+            ("aborted 0 1 3", "aborted 0 2 8"),
+        ],
+        &[("short 1 2 15", "short 0 0 0"), ("broken 0 0 0", "broken 1 1 10")],
+        &[("aborted 0 1 3", "aborted 0 0 0")],
+        &[("taken 1", "taken 0")],
+    ];
+    let mut all_wrong = journal.clone();
+    for (end, lines) in ends.into_iter().zip(expected) {
+        let mut wrong = journal.clone();
+        wrong[end - 1] ^= 0x10;
+        all_wrong[end - 1] ^= 0x01;
+        let mut expected = EXAMPLE.replace("badcheck 0 0 0", "badcheck 0 1 0");
+        for (before, after) in lines {
+            expected = expected.replace(before, after);
+        }
+        let account = whole(&wrong).expect("a good journal");
+        assert_eq!(printed(&account), expected, "the record up to {end}");
+    }
+    let mut only_wrong = Account { total: 6, ..Account::default() };
+    only_wrong.grid[Fate::BadCheck as usize] = [0, 6, 0];
+    assert_eq!(whole(&all_wrong), Some(only_wrong));
+}
+
+/// An open packet, a wrong Middle, a Last that then aborts; a wrong Receive
+/// Enable.
+#[test]
+fn wrong_check_bytes() {
+    let mut journal = b"TCO\x02\x00\xf0".to_vec();
+    let data = [0x5a; 20];
+    journal.extend(record(2, 0x84, 1, &data));
+    let middle = record(2, 0x04, 1, &data);
+    journal.extend(&middle[..middle.len() - 1]);
+    journal.push(middle[middle.len() - 1] ^ 0x40);
+    journal.extend(record(2, 0x44, 1, &data));
+    let mut account = Account { total: 3, ..Account::default() };
+    account.grid[Fate::Broken as usize] = [1, 1, 20];
+    account.grid[Fate::Aborted as usize] = [0, 1, 20];
+    account.grid[Fate::BadCheck as usize] = [0, 1, 0];
+    assert_eq!(whole(&journal), Some(account));
+    let enable = record(2, 0xca, 1, &[0x41]);
+    journal.extend([&[0x93], &enable[1..]].concat());
+    account.grid[Fate::BadCheck as usize] = [0, 2, 0];
+    account.total = 4;
+    assert_eq!(whole(&journal), Some(account));
 }
 
 #[test]
 fn a_header_alone() {
-    for maximum in 0..=255 {
-        let journal = [&b"TCO\x01\x00"[..], &[maximum]].concat();
-        let (answer, state) = fresh(u32::from(maximum));
-        assert_eq!(whole(&journal), (answer == 0).then_some(state.account), "maximum {maximum}");
-        assert_eq!(in_pieces(journal.chunks(1)), whole(&journal), "maximum {maximum}");
+    for version in VERSIONS {
+        for maximum in 0..=255 {
+            let journal = [b'T', b'C', b'O', version, 0, maximum];
+            let (answer, state) = fresh(u32::from(maximum), version == 2);
+            let expected = (answer == 0).then_some(state.account);
+            assert_eq!(whole(&journal), expected, "version {version}, maximum {maximum}");
+            assert_eq!(in_pieces(journal.chunks(1)), expected, "version {version}");
+            let listed = Listing::of(&journal).map(|listing| listing.history().account());
+            assert_eq!(listed, expected, "version {version}, maximum {maximum}");
+        }
+    }
+    for version in 0..=0xffff_u16 {
+        let [low, high] = version.to_le_bytes();
+        let journal = [b'T', b'C', b'O', low, high, 32];
+        let is_good = version == 1 || version == 2;
+        assert_eq!(whole(&journal).is_some(), is_good, "version {version}");
+        assert_eq!(Listing::of(&journal).is_some(), is_good, "version {version}");
     }
     let zeros = "sent 0 0 0\nsuperseded 0 0 0\nflushed 0 0 0\nbroken 0 0 0\nover 0 0 0\n\
-                 short 0 0 0\nlinkdown 0 0 0\naborted 0 0 0\nbadlength 0 0 0\nopen 0 0 0\n\
-                 taken 0\nrefused 0\ntotal 0\n";
+                 short 0 0 0\nlinkdown 0 0 0\naborted 0 0 0\nbadlength 0 0 0\nbadcheck 0 0 0\n\
+                 open 0 0 0\ntaken 0\nrefused 0\ntotal 0\n";
     assert_eq!(printed(&Account::default()), format!("fate packets fragments bytes\n{zeros}"));
 }
 
 #[test]
 fn bad_journals() {
-    let journals: [(&str, &[u8]); 16] = [
+    let journals: [(&str, &[u8]); 27] = [
         ("no bytes", b""),
         ("a header without the maximum", b"TCO\x01\x00"),
         ("another name", b"TCP\x01\x00\x20"),
@@ -97,6 +186,17 @@ fn bad_journals() {
         ("a record without its length", b"TCO\x01\x00\x20\xc4\x01"),
         ("a record without its data", b"TCO\x01\x00\x20\xc4\x01\x01"),
         ("a record cut in its data", b"TCO\x01\x00\x20\xc4\x01\x03\x11\x22"),
+        ("version 3", b"TCO\x03\x00\x20"),
+        ("version 2, high byte first", b"TCO\x00\x02\x20"),
+        ("version 2, maximum 241", b"TCO\x02\x00\xf1"),
+        ("version 2, link 2", b"TCO\x02\x00\x20\x92\xc4\x02\x01\x11\x00"),
+        ("version 2, link 255 of a record that is cut", b"TCO\x02\x00\x20\x92\xc4\xff"),
+        ("version 2, an address alone", b"TCO\x02\x00\x20\x92"),
+        ("version 2, an address and a command", b"TCO\x02\x00\x20\x92\xc4"),
+        ("version 2, no length", b"TCO\x02\x00\x20\x92\xc4\x01"),
+        ("version 2, no data", b"TCO\x02\x00\x20\x92\xc4\x01\x01"),
+        ("version 2, no check byte", b"TCO\x02\x00\x20\x92\xc4\x01\x01\x11"),
+        ("version 2, no check byte behind no data", b"TCO\x02\x00\x20\x92\x05\x01\x00"),
     ];
     for (name, journal) in journals {
         assert_eq!(Listing::of(journal), None, "{name}");
@@ -108,19 +208,60 @@ fn bad_journals() {
 
 #[test]
 fn what_is_bad_stays_bad() {
-    let journal = example();
-    let mut replay = Replay::new();
-    replay.feed(b"TCO\x01\x00\x00");
-    for piece in journal.chunks(7) {
-        replay.feed(piece);
+    for (version, start) in VERSIONS.into_iter().zip([b"TCO\x01\x00\x00", b"TCO\x02\x00\x00"]) {
+        let journal = example(version);
+        let mut replay = Replay::new();
+        replay.feed(start);
+        for piece in journal.chunks(7) {
+            assert!(replay.is_bad());
+            replay.feed(piece);
+        }
+        assert_eq!(replay.end(), None);
     }
-    assert_eq!(replay.end(), None);
+}
+
+/// The record is not looked at any further.
+#[test]
+fn a_bad_link_byte_is_bad_as_soon_as_it_is_there() {
+    let behind: [&[u8]; 4] = [b"", b"\xff", b"\x02\x11", b"\x01\x11\x22"];
+    for (version, before) in VERSIONS.into_iter().zip([&b"\xc4"[..], b"\x92\xc4"]) {
+        for link in 0..=255 {
+            for behind in behind {
+                let journal = [b"TCO", &[version, 0, 32], before, &[link], behind].concat();
+                for size in 1..=journal.len() {
+                    let mut replay = Replay::new();
+                    journal.chunks(size).for_each(|piece| replay.feed(piece));
+                    assert_eq!(replay.is_bad(), link > 1, "{journal:x?} in pieces of {size}");
+                }
+            }
+        }
+    }
+}
+
+/// The longest records fill what is held between pieces.
+#[test]
+fn the_longest_records() {
+    for version in VERSIONS {
+        let mut journal = vec![b'T', b'C', b'O', version, 0, 240];
+        for command in [0xc4, 0x05, 0xca] {
+            journal.extend(record(version, command, 0, &[0x33; 255]));
+        }
+        let longest = if version == 1 { 258 } else { 260 };
+        assert_eq!(journal.len(), 6 + 3 * longest);
+        let mut account = Account { refused: 2, total: 3, ..Account::default() };
+        account.grid[Fate::BadLength as usize] = [0, 1, 0];
+        for size in 1..=journal.len() {
+            assert_eq!(in_pieces(journal.chunks(size)), Some(account), "pieces of {size}");
+            assert_eq!(whole(&journal[..journal.len() - 1]), None);
+        }
+    }
 }
 
 /// A random journal, and the places at which it may end.
 fn random_journal(random: &mut Random) -> (Vec<u8>, Vec<usize>) {
     let maximum = random.pick(&[1, 2, 17, 32, 64, 239, 240]);
-    let mut journal = [&b"TCO\x01\x00"[..], &[maximum]].concat();
+    let version = random.pick(&VERSIONS);
+    let mut journal = vec![b'T', b'C', b'O', version, 0, maximum];
     let mut ends = vec![journal.len()];
     let calm = random.pick(&[8, 8, 80]);
     let fragments: &[u8] = if calm == 8 {
@@ -144,8 +285,13 @@ fn random_journal(random: &mut Random) -> (Vec<u8>, Vec<usize>) {
         if command == 0xca && length > 0 {
             data[0] = random.pick(&[0x40, 0x41, 0x49, 0x71, 0xc1, 0xc9]);
         }
-        journal.extend([command, random.below(2) as u8, length]);
-        journal.extend(data);
+        journal.extend(record(version, command, random.below(2) as u8, &data));
+        // A wrong check byte, or other data in version 1.
+        if random.one_in(2 * calm) {
+            let last = journal.len() - 1;
+            let is_data = version == 2 || length > 0;
+            journal[last] ^= if is_data { 1 << random.below(8) } else { 0 };
+        }
         ends.push(journal.len());
     }
     (journal, ends)
@@ -168,6 +314,7 @@ fn random_pieces<'a>(random: &mut Random, journal: &'a [u8]) -> Vec<&'a [u8]> {
 fn replay_and_history_agree_in_any_pieces() {
     let mut random = Random::new(4711);
     let mut packets_of = [0; ROWS.len()];
+    let mut bad_checks = 0;
     for number in 0..3000 {
         let (journal, _) = random_journal(&mut random);
         let account = whole(&journal).expect("a good journal");
@@ -178,7 +325,9 @@ fn replay_and_history_agree_in_any_pieces() {
         for (packets, row) in packets_of.iter_mut().zip(account.grid) {
             *packets += row[0];
         }
+        bad_checks += account.grid[Fate::BadCheck as usize][1];
     }
+    assert!(bad_checks > 500, "{bad_checks}");
     // Journals in which some fate never comes would show little.
     for fate in &ROWS[..7] {
         assert!(packets_of[*fate as usize] > 20, "{fate:?}: {packets_of:?}");

@@ -1,18 +1,21 @@
 //! The program as it is called from a shell.
 
+mod kernel;
+
 use std::io::Write;
 use std::process::{Command, Output, Stdio};
 use std::thread;
 
 /// The most bytes of cases and answers together.
-const MOST_BYTES: usize = 5_700_000;
+const MOST_BYTES: usize = 7_800_000;
 const LONGEST_LINE: usize = 8000;
 
-const SUBJECTS: [&str; 10] = [
+const SUBJECTS: [&str; 11] = [
     "setlink",
     "status",
     "settings",
     "packet",
+    "codes",
     "account",
     "state",
     "transactions",
@@ -95,24 +98,35 @@ fn answers_of_every_operation() {
         ("ipv4 c90302030405060708090a0b0c0d0e 00a0c9010203cb007109", "01 08090a0b"),
         ("ipv4 400000000000000000000000000000 00a0c9010203cb007109", "02 cb007109"),
         ("ipv4 400000000000000000000000000000 00a0c9010203cb0071", "00 -"),
+        ("crc 00 313233343536373839", "f4 f4"),
+        ("crc a5 -", "a5 a5"),
+        ("code 92 ca 41", "00 a5"),
+        ("code 00 00 -", "00 00"),
+        ("code-pattern 92 c4 00ff 01", "00 4b"),
+        ("code-pattern 92 c4 0100 01", "11 00"),
     ];
     for (case, answer) in examples {
         assert_eq!(answers(&format!("{case}\n")), format!("{answer}\n"), "{case}");
     }
 }
 
-/// The 32 numbers of an account as a field, those not given zero.
+/// The 35 numbers of an account as a field, those not given zero.
 fn account(numbers: &[(usize, u64)]) -> String {
-    let mut all = [0; 32];
+    let mut all = [0; 35];
     for (place, number) in numbers {
         all[*place] = *number;
     }
     all.iter().map(|number| format!("{number:016x}")).collect()
 }
 
-/// A state as a field: its account, then the maximum.
+/// A state with the check off as a field: its account, the maximum, the check.
 fn state(numbers: &[(usize, u64)], maximum: u64) -> String {
-    format!("{}{maximum:016x}", account(numbers))
+    format!("{}{maximum:016x}00", account(numbers))
+}
+
+/// The same with the check on.
+fn checked(numbers: &[(usize, u64)], maximum: u64) -> String {
+    format!("{}{maximum:016x}01", account(numbers))
 }
 
 /// The digest of bytes, as a field.
@@ -123,11 +137,7 @@ fn digest(bytes: &[u8]) -> String {
 
 /// The digest of the bytes of a field.
 fn digest_of_field(field: &str) -> String {
-    let byte = |pair: &[u8]| {
-        let text = std::str::from_utf8(pair).expect("digits");
-        u8::from_str_radix(text, 16).expect("digits")
-    };
-    digest(&field.as_bytes().chunks(2).map(byte).collect::<Vec<u8>>())
+    digest(&bytes_of(field))
 }
 
 fn pattern(size: usize, seed: usize) -> Vec<u8> {
@@ -154,16 +164,22 @@ fn answers_about_a_store() {
 fn answers_about_an_account_and_a_state() {
     let for_32 = state(&[], 32);
     let for_240 = state(&[], 240);
-    assert_eq!(answers("fresh-state 00000020\n"), format!("00 {for_32}\n"));
-    assert_eq!(answers("fresh-state 00000000\n"), format!("10 {for_240}\n"));
+    assert_eq!(answers("fresh-state 00000020 00\n"), format!("00 {for_32}\n"));
+    assert_eq!(answers("fresh-state 00000000 00\n"), format!("10 {for_240}\n"));
+    let (for_32_checked, for_240_checked) = (checked(&[], 32), checked(&[], 240));
+    assert_eq!(answers("fresh-state 00000020 01\n"), format!("00 {for_32_checked}\n"));
+    assert_eq!(answers("fresh-state 00000000 01\n"), format!("10 {for_240_checked}\n"));
+    assert_eq!(answers(&format!("sound-state {for_32_checked}\n")), "01\n");
+    let bad_check = format!("{}02", &for_32[..for_32.len() - 2]);
+    assert_eq!(answers(&format!("sound-state {bad_check}\n")), "00\n");
     assert_eq!(answers(&format!("sound-state {for_32}\n")), "01\n");
-    for unsound in [state(&[(31, 1)], 32), state(&[], 0), state(&[], 241)] {
+    for unsound in [state(&[(34, 1)], 32), state(&[], 0), state(&[], 241)] {
         assert_eq!(answers(&format!("sound-state {unsound}\n")), "00\n");
     }
     assert_eq!(answers(&format!("sound-account {}\n", account(&[]))), "01\n");
-    assert_eq!(answers(&format!("sound-account {}\n", account(&[(31, 1)]))), "00\n");
+    assert_eq!(answers(&format!("sound-account {}\n", account(&[(34, 1)]))), "00\n");
     // An open fragment of 33 bytes: sound by itself, and not under a maximum of 32.
-    let open = [(27, 1), (28, 33), (31, 1)];
+    let open = [(30, 1), (31, 33), (34, 1)];
     assert_eq!(answers(&format!("sound-account {}\n", account(&open))), "01\n");
     assert_eq!(answers(&format!("sound-state {}\n", state(&open, 33))), "01\n");
     assert_eq!(answers(&format!("sound-state {}\n", state(&open, 32))), "00\n");
@@ -173,9 +189,9 @@ fn answers_about_an_account_and_a_state() {
 fn answers_about_what_is_carried() {
     let fresh = "400000000000000000000000000000";
     let before = state(&[], 32);
-    let open = state(&[(27, 1), (28, 3), (31, 1)], 32);
-    let sent = state(&[(0, 1), (1, 2), (2, 18), (31, 2)], 32);
-    let taken = state(&[(0, 1), (1, 2), (2, 18), (29, 1), (31, 3)], 32);
+    let open = state(&[(30, 1), (31, 3), (34, 1)], 32);
+    let sent = state(&[(0, 1), (1, 2), (2, 18), (34, 2)], 32);
+    let taken = state(&[(0, 1), (1, 2), (2, 18), (32, 1), (34, 3)], 32);
     let mut store = pattern(1600, 7);
     store[..3].copy_from_slice(&[1, 2, 3]);
     let after_open = digest(&store);
@@ -205,9 +221,42 @@ fn answers_about_what_is_carried() {
 }
 
 #[test]
+fn answers_about_check_bytes() {
+    let fresh = "400000000000000000000000000000";
+    let before = checked(&[], 240);
+    let open = checked(&[(30, 1), (31, 3), (34, 1)], 240);
+    let broken = [(9, 1), (10, 1), (11, 3), (28, 1), (34, 2)];
+    let broken = checked(&broken, 240);
+    let aborted = checked(&[(9, 1), (10, 1), (11, 3), (22, 1), (23, 3), (28, 1), (34, 3)], 240);
+    let mut store = pattern(1536, 7);
+    store[..3].copy_from_slice(&[0x11, 0x22, 0x33]);
+    let rest = format!("{} {}", digest(&store), digest_of_field(fresh));
+    let enabled = checked(&[(9, 1), (10, 1), (11, 3), (22, 1), (23, 3), (28, 2), (34, 4)], 240);
+    let cases = format!(
+        "start {before} 0600 07 {fresh}\n\
+         send-coded 92 84 01 112233 d6\nshow\n\
+         send-coded-pattern 92 04 01 0003 00 00\nshow\n\
+         send-coded 92 44 01 112233 89\nshow\n\
+         send-coded 92 ca 01 41 a4\nshow\n"
+    );
+    let expected = [
+        "01".to_string(),
+        format!("00 0000 {} {rest}", digest_of_field(&open)),
+        format!("{open} {fresh}"),
+        format!("11 0000 {} {rest}", digest_of_field(&broken)),
+        format!("{broken} {fresh}"),
+        format!("02 0000 {} {rest}", digest_of_field(&aborted)),
+        format!("{aborted} {fresh}"),
+        format!("11 0000 {} {rest}", digest_of_field(&enabled)),
+        format!("{enabled} {fresh}"),
+    ];
+    assert_eq!(answers(&cases).lines().collect::<Vec<_>>(), expected);
+}
+
+#[test]
 fn answers_about_fragments_onto_an_open_packet() {
-    let before = |bytes| state(&[(27, 7), (28, bytes), (31, 7)], 240);
-    let open = |bytes| state(&[(27, 8), (28, bytes), (31, 8)], 240);
+    let before = |bytes| state(&[(30, 7), (31, bytes), (34, 7)], 240);
+    let open = |bytes| state(&[(30, 8), (31, bytes), (34, 8)], 240);
     let fresh = "400000000000000000000000000000";
     let store = pattern(1540, 0xf0);
     let mut at_700 = store.clone();
@@ -216,9 +265,9 @@ fn answers_about_fragments_onto_an_open_packet() {
     at_1533[1533..1536].copy_from_slice(&[1, 2, 3]);
     let mut at_0 = store.clone();
     at_0[..3].copy_from_slice(&[1, 2, 3]);
-    let superseded = state(&[(3, 1), (4, 7), (5, 1534), (27, 1), (28, 3), (31, 8)], 240);
-    let sent = state(&[(0, 1), (1, 8), (2, 1536), (31, 8)], 240);
-    let over = state(&[(12, 1), (13, 8), (14, 1537), (31, 8)], 240);
+    let superseded = state(&[(3, 1), (4, 7), (5, 1534), (30, 1), (31, 3), (34, 8)], 240);
+    let sent = state(&[(0, 1), (1, 8), (2, 1536), (34, 8)], 240);
+    let over = state(&[(12, 1), (13, 8), (14, 1537), (34, 8)], 240);
     for (bytes, command, answer, after, store) in [
         (700, "04", "00 0000", open(703), &at_700),
         (1533, "04", "00 0000", open(1536), &at_1533),
@@ -272,6 +321,7 @@ fn lines_that_are_no_case() {
     let state_for_account = format!("sound-account {fresh}");
     let account_for_state = format!("sound-state {zeros}");
     let long_state = format!("sound-state {fresh}00");
+    let state_without_check = format!("sound-state {}", &fresh[2..]);
     let account_to_start = format!("start {zeros} 0800 00 -");
     let state_to_print = format!("print {fresh} 0800");
     let large_store = format!("start {fresh} 0801 00 -");
@@ -305,6 +355,14 @@ fn lines_that_are_no_case() {
         "fill 0040 00 00000000",
         "shown 0040 00",
         "shown 0040 00 0000000000000000 01",
+        "crc 00",
+        "crc - 00",
+        "crc 0000 00",
+        "code 92 -",
+        "code 92 c4",
+        "code 92 c4 - 00",
+        "code-pattern 92 c4 00ff",
+        "code-pattern 92 c4 0801 00",
         "sound-account -",
         &short_account,
         &state_for_account,
@@ -312,12 +370,22 @@ fn lines_that_are_no_case() {
         &long_state,
         "fresh-account 00000020",
         "fresh-state 20",
+        "fresh-state 00000020",
+        "fresh-state 00000020 02",
+        "sound-state -",
+        &state_without_check,
         &account_to_start,
         &state_to_print,
         &large_store,
         &long_settings,
         "send 84 02 01",
         "send-pattern 84 01 0801 00",
+        "send-coded 92 84 01 01",
+        "send-coded 84 01 01 00",
+        "send-coded 92 84 02 01 00",
+        "send-coded 92 84 01 01 0000",
+        "send-coded-pattern 92 84 01 0001 00",
+        "send-coded-pattern 92 84 01 0801 00 00",
         "show -",
         "packet 40",
         "journal 00 -",
@@ -358,7 +426,7 @@ fn the_longest_lines_are_taken() {
 
 #[test]
 fn anything_else_is_answered_with_usage() {
-    let wrong: [&[&str]; 15] = [
+    let wrong: [&[&str]; 17] = [
         &[],
         &["help"],
         &["generate", "generate"],
@@ -368,6 +436,8 @@ fn anything_else_is_answered_with_usage() {
         &["bench-journal"],
         &["bench-journal", "commands"],
         &["bench-journal", "fragments-30", "100"],
+        &["bench-journal", "fragments-30-checked", "100"],
+        &["bench-journal", "-checked", "100"],
         &["bench-journal", "commands", "-1"],
         &["bench-journal", "commands", "100k"],
         &["bench-journal", "commands", "100", "100"],
@@ -420,7 +490,7 @@ fn generated_cases_reach_every_answer() {
             case.split(' ').next() == Some(operation) && given.starts_with(answer)
         })
     };
-    let expected: [(&str, &[&str]); 11] = [
+    let expected: [(&str, &[&str]); 17] = [
         ("link", &["0000 0000 ", "0001 0002 ", "0001 0901 ", "0001 0902 ", "0001 0903 "]),
         ("link", &["0001 0905 "]),
         ("write-status", &["00 00 ", "0f 02 ", "0f 05 ", "0f 06 "]),
@@ -431,7 +501,13 @@ fn generated_cases_reach_every_answer() {
         ("ipv4", &["00 -", "01 ", "02 "]),
         ("fresh-state", &["00 ", "10 "]),
         ("send-pattern", &["00 ", "01 ", "02 ", "03 ", "04 ", "05 ", "06 ", "07 "]),
-        ("send-pattern", &["08 ", "09 ", "0a ", "0b ", "0c ", "0d ", "0e "]),
+        ("send-pattern", &["08 ", "09 ", "0a ", "0b ", "0c ", "0d ", "0e ", "11 "]),
+        ("send", &["11 "]),
+        ("send-coded", &["00 ", "01 ", "02 ", "05 ", "07 ", "0b ", "11 "]),
+        ("send-coded-pattern", &["00 ", "01 ", "02 ", "03 ", "04 ", "05 ", "06 ", "07 "]),
+        ("send-coded-pattern", &["08 ", "09 ", "0a ", "0b ", "0c ", "0d ", "0e ", "11 "]),
+        ("code", &["00 ", "11 00"]),
+        ("code-pattern", &["00 ", "11 00"]),
     ];
     for (operation, kinds) in expected {
         for kind in kinds {
@@ -465,7 +541,88 @@ fn named_lists_are_answered_as_their_names_say() {
             assert_eq!(Some(given), expected.pop(), "{name}");
         }
     }
-    assert!(named > 400, "{named}");
+    assert!(named > 800, "{named}");
+}
+
+#[test]
+fn repeated_transactions_are_answered_as_their_names_say() {
+    let (cases, answers) = answered("transactions");
+    let mut expected: Option<u8> = None;
+    let mut named = 0;
+    for (case, answer) in cases.lines().zip(answers.lines()) {
+        if case.is_empty() || case.starts_with('#') {
+            let number = |(_, number): (&str, &str)| number.parse().expect("a number");
+            expected = case.split_once(": each answered ").map(number);
+        } else if let (true, Some(expected)) = (case.starts_with("send"), expected) {
+            assert_eq!(answer[..2], format!("{expected:02x}"), "{case}");
+            named += 1;
+        }
+    }
+    assert!(named > 700, "{named}");
+}
+
+#[test]
+fn named_codes_are_as_their_names_say() {
+    let (cases, answers) = answered("codes");
+    let mut name = "";
+    let mut named = 0;
+    for (case, answer) in cases.lines().zip(answers.lines()) {
+        if case.is_empty() || case.starts_with('#') {
+            name = case;
+            continue;
+        }
+        let crc = case.starts_with("crc ");
+        if let Some((_, code)) = name.split_once(": code 0x") {
+            let expected = if crc { format!("{code} {code}") } else { format!("00 {code}") };
+            assert_eq!(answer, expected, "{name}");
+            named += 1;
+        } else if name.ends_with(": no code") {
+            assert_eq!(answer, "11 00", "{name}");
+            named += 1;
+        } else if crc {
+            assert_eq!(answer[..2], answer[3..], "{case}");
+        }
+    }
+    assert!(named > 60, "{named}");
+}
+
+/// The bytes of a field.
+fn bytes_of(field: &str) -> Vec<u8> {
+    let digits = if field == "-" { "" } else { field };
+    let byte = |pair: &[u8]| {
+        let text = std::str::from_utf8(pair).expect("digits");
+        u8::from_str_radix(text, 16).expect("digits")
+    };
+    digits.as_bytes().chunks(2).map(byte).collect()
+}
+
+/// Every code of the cases, by the kernel's own way.
+#[test]
+fn codes_are_those_of_the_kernel() {
+    let (cases, answers) = answered("codes");
+    let mut compared = 0;
+    for (case, answer) in cases.lines().zip(answers.lines()) {
+        let fields: Vec<&str> = case.split(' ').collect();
+        let number = |place: usize| usize::from_str_radix(fields[place], 16).expect("digits");
+        let (address_and_command, data) = match fields[0] {
+            "crc" => {
+                let code = kernel::pec(number(1) as u8, &bytes_of(fields[2]));
+                assert_eq!(answer, format!("{code:02x} {code:02x}"), "{case}");
+                compared += 1;
+                continue;
+            }
+            "code" => ([number(1) as u8, number(2) as u8], bytes_of(fields[3])),
+            "code-pattern" => ([number(1) as u8, number(2) as u8], pattern(number(3), number(4))),
+            _ => continue,
+        };
+        if data.len() <= 255 {
+            let message = [&address_and_command[..], &[data.len() as u8], &data].concat();
+            let code = kernel::pec(0, &message);
+            assert_eq!(answer, format!("00 {code:02x}"), "{case}");
+            compared += 1;
+        }
+    }
+    assert!(compared > 600, "{compared}");
 }
 
 #[test]
@@ -540,14 +697,18 @@ const HEADING: &str = "fate packets fragments bytes\n";
 #[test]
 fn answers_about_journals() {
     let zeros = "sent 0 0 0\nsuperseded 0 0 0\nflushed 0 0 0\nbroken 0 0 0\nover 0 0 0\n\
-                 short 0 0 0\nlinkdown 0 0 0\naborted 0 0 0\nbadlength 0 0 0\nopen 0 0 0\n\
-                 taken 0\nrefused 0\ntotal 0\n";
+                 short 0 0 0\nlinkdown 0 0 0\naborted 0 0 0\nbadlength 0 0 0\n\
+                 badcheck 0 0 0\nopen 0 0 0\ntaken 0\nrefused 0\ntotal 0\n";
     let zeros = digits(&format!("{HEADING}{zeros}"));
     let bad = digits("bad journal\n");
     for (case, answer) in [
         ("journal 0000 54434f0100f0", &zeros),
         ("journal 0001 54434f0100f0", &zeros),
         ("journal ffff 54434f0100f0", &zeros),
+        ("journal 0000 54434f0200f0", &zeros),
+        ("journal 0002 54434f0200f0", &zeros),
+        ("journal 0000 54434f0300f0", &bad),
+        ("journal 0003 54434f020020920501", &bad),
         ("journal 0000 54434f0100f1", &bad),
         ("journal 0000 54434f0100", &bad),
         ("journal 0002 54434f010020c40201ff", &bad),
@@ -570,7 +731,7 @@ fn answers_about_journals() {
         let case = format!("print {account} {room:04x}");
         assert_eq!(answers(&format!("{case}\n")), format!("{answer}\n"), "room {room}");
     }
-    let unsound = format!("print {} 0003", self::account(&[(31, 1)]));
+    let unsound = format!("print {} 0003", self::account(&[(34, 1)]));
     assert_eq!(answers(&format!("{unsound}\n")), "0000 aab1b8\n");
 }
 
@@ -625,13 +786,19 @@ fn file(name: &str, bytes: &[u8]) -> String {
 #[test]
 fn accounts_of_files_and_of_standard_input() {
     let journal = b"TCO\x01\x00\x20\x84\x01\x02\x11\x22\x05\x00\x00";
-    let path = file("good-journal", journal);
-    for output in [run(&["account", &path], b""), run(&["account"], journal)] {
-        assert!(output.status.success());
-        assert!(output.stderr.is_empty());
-        let text = String::from_utf8(output.stdout).expect("an account is ASCII");
-        assert!(text.starts_with(HEADING));
-        assert!(text.ends_with("\nopen 1 1 2\ntaken 0\nrefused 1\ntotal 2\n"));
+    let checked = b"TCO\x02\x00\x20\x92\x84\x01\x03\x11\x22\x33\xd6\x92\x05\x00\x00\x00";
+    for (name, journal, end) in [
+        ("good-journal", &journal[..], "badcheck 0 0 0\nopen 1 1 2\ntaken 0\nrefused 1\ntotal 2\n"),
+        ("checked-journal", checked, "badcheck 0 1 0\nopen 0 0 0\ntaken 0\nrefused 0\ntotal 2\n"),
+    ] {
+        let path = file(name, journal);
+        for output in [run(&["account", &path], b""), run(&["account"], journal)] {
+            assert!(output.status.success());
+            assert!(output.stderr.is_empty());
+            let text = String::from_utf8(output.stdout).expect("an account is ASCII");
+            assert!(text.starts_with(HEADING));
+            assert!(text.ends_with(end), "{text}");
+        }
     }
     let path = file("bad-journal", &journal[..journal.len() - 1]);
     for output in [run(&["account", &path], b""), run(&["account"], b"")] {
@@ -656,9 +823,14 @@ fn files_that_cannot_be_read() {
 
 #[test]
 fn journals_to_measure_with() {
-    for (kind, line) in
-        [("fragments-240", "sent "), ("fragments-20", "sent "), ("commands", "aborted 0 ")]
-    {
+    for (kind, line) in [
+        ("fragments-240", "sent "),
+        ("fragments-20", "sent "),
+        ("commands", "aborted 0 "),
+        ("fragments-240-checked", "sent "),
+        ("fragments-20-checked", "sent "),
+        ("commands-checked", "aborted 0 "),
+    ] {
         let journal = run(&["bench-journal", kind, "1000000"], b"");
         assert!(journal.status.success());
         assert!((1_000_000..1_010_000).contains(&journal.stdout.len()), "{kind}");
@@ -667,8 +839,38 @@ fn journals_to_measure_with() {
         let text = String::from_utf8(output.stdout).expect("an account is ASCII");
         let counted = text.lines().find_map(|text| text.strip_prefix(line));
         assert!(counted.map_or(false, |counted| !counted.starts_with("0 ")), "{text}");
-        assert!(text.contains("\nopen 0 0 0\n"), "{text}");
+        assert!(text.contains("\nbadcheck 0 0 0\nopen 0 0 0\n"), "{text}");
     }
     let header = run(&["bench-journal", "commands", "0"], b"");
     assert_eq!(header.stdout, b"TCO\x01\x00\xf0");
+    let header = run(&["bench-journal", "fragments-20-checked", "0"], b"");
+    assert_eq!(header.stdout, b"TCO\x02\x00\x14");
+}
+
+/// The same records in both versions.
+#[test]
+fn journals_to_measure_with_differ_in_their_check_bytes_alone() {
+    for kind in ["fragments-240", "fragments-20", "commands"] {
+        let [plain, checked] = [kind.to_string(), format!("{kind}-checked")].map(|kind| {
+            let journal = run(&["bench-journal", &kind, "100000"], b"").stdout;
+            let version = journal[3];
+            let mut transactions = Vec::new();
+            let mut rest = &journal[6..];
+            while let [first, second, ..] = *rest {
+                let (command, head) = if version == 2 { (second, 4) } else { (first, 3) };
+                let length = usize::from(rest[head - 1]);
+                let record = head + length + usize::from(version == 2);
+                transactions.push((command, rest[head..head + length].to_vec()));
+                if version == 2 {
+                    let message = [&[first, command, length as u8], &rest[head..head + length]];
+                    assert_eq!(rest[record - 1], kernel::pec(0, &message.concat()), "{kind}");
+                }
+                rest = &rest[record..];
+            }
+            transactions
+        });
+        let shorter = plain.len().min(checked.len());
+        assert!(shorter > 300, "{kind}");
+        assert_eq!(plain[..shorter], checked[..shorter], "{kind}");
+    }
 }

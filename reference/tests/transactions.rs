@@ -1,12 +1,13 @@
 //! Transactions: the worked examples, and the translator against the history.
 
 use reference::account::{self, Account, Fate, BYTES, FRAGMENTS, HIGHEST_TOTAL, PACKETS, ROWS};
-use reference::history::{History, Place, Transaction};
+use reference::history::{History, Place, Setup, Transaction};
 use reference::packet::{append, fill, shown};
+use reference::pec::code;
 use reference::printout::{print, ENOUGH_ROOM};
 use reference::random::Random;
 use reference::state::{self, fresh, State, NUMBERS};
-use reference::translator::transact;
+use reference::translator::{self, transact};
 
 /// Command, number of data bytes, link up.
 type Send = (u8, usize, bool);
@@ -24,7 +25,11 @@ struct Kept {
 
 impl Kept {
     fn fresh(maximum: u32) -> Kept {
-        let (answer, state) = fresh(maximum);
+        Kept::with_check(maximum, false)
+    }
+
+    fn with_check(maximum: u32, check: bool) -> Kept {
+        let (answer, state) = fresh(maximum, check);
         assert_eq!(answer, 0);
         let mut settings = vec![0xee; 17];
         assert_eq!(reference::settings::fresh(&mut settings), 0);
@@ -32,15 +37,33 @@ impl Kept {
     }
 
     fn transact(&mut self, transaction: &Transaction) -> (u8, u16) {
-        let Transaction { command, data, link_up } = transaction;
+        let Transaction { address, command, ref data, code, link_up } = *transaction;
         let Kept { state, store, settings } = self;
-        transact(state, store, settings, *command, data, *link_up)
+        let transaction = translator::Transaction { address, command, code, link_up };
+        transact(state, store, settings, transaction, data)
     }
 
     /// Does a transaction of so many bytes, and gives its answer.
     fn send(&mut self, command: u8, bytes: usize, link_up: bool) -> u8 {
-        self.transact(&Transaction { command, data: data(bytes), link_up }).0
+        self.transact(&plain(command, bytes, link_up)).0
     }
+}
+
+/// A transaction of these data with its right check byte.
+fn right(command: u8, data: &[u8]) -> Transaction {
+    let (address, (_, code)) = (0x92, code(0x92, command, data));
+    Transaction { address, command, data: data.to_vec(), code, link_up: true }
+}
+
+/// The same with these bits of its check byte turned.
+fn wrong(command: u8, data: &[u8], turned: u8) -> Transaction {
+    let right = right(command, data);
+    Transaction { code: right.code ^ turned, ..right }
+}
+
+/// A transaction of so many bytes without address and check byte.
+fn plain(command: u8, bytes: usize, link_up: bool) -> Transaction {
+    Transaction { address: 0, command, data: data(bytes), code: 0, link_up }
 }
 
 fn data(bytes: usize) -> Vec<u8> {
@@ -87,14 +110,14 @@ fn marked_examples() {
 #[test]
 fn sent_lengths_and_bytes() {
     let mut kept = Kept::fresh(240);
-    let whole = Transaction { command: 0xc4, data: data(17), link_up: true };
+    let whole = plain(0xc4, 17, true);
     assert_eq!(kept.transact(&whole), (1, 60));
     assert_eq!(shown(&kept.store, 60), [&data(17)[..], &[0; 43]].concat());
     assert_eq!(kept.store[60..], [0xdd; 1480]);
 
     for (bytes, sent) in [(59, 60), (60, 60), (61, 61)] {
         let mut kept = Kept::fresh(240);
-        let whole = Transaction { command: 0xc4, data: data(bytes), link_up: true };
+        let whole = plain(0xc4, bytes, true);
         assert_eq!(kept.transact(&whole), (1, sent), "{bytes}");
         let fill = vec![0; sent as usize - bytes];
         assert_eq!(shown(&kept.store, u64::from(sent)), [data(bytes), fill].concat(), "{bytes}");
@@ -109,7 +132,7 @@ fn sent_lengths_and_bytes() {
         assert_eq!(kept.send(command, bytes, true), 0);
     }
     packet.extend(data(96));
-    let last = Transaction { command: 0x44, data: data(96), link_up: true };
+    let last = plain(0x44, 96, true);
     assert_eq!(kept.transact(&last), (1, 1536));
     assert_eq!(shown(&kept.store, 1536), packet);
     assert_eq!(kept.store[1536..], [0xdd; 4]);
@@ -144,7 +167,7 @@ fn the_printout() {
     {
         assert_eq!(kept.send(command, bytes, true), answer);
     }
-    let enable = Transaction { command: 0xca, data: vec![0x41], link_up: true };
+    let enable = Transaction { data: vec![0x41], ..plain(0xca, 1, true) };
     assert_eq!(kept.transact(&enable), (11, 0));
     let grid = [
         [1, 1, 20],
@@ -156,37 +179,42 @@ fn the_printout() {
         [0, 0, 0],
         [0, 1, 3],
         [0, 0, 0],
+        [0, 0, 0],
     ];
     let account = Account { grid, taken: 1, total: 6, ..Account::default() };
-    assert_eq!(kept.state, State { account, maximum: 32 });
+    assert_eq!(kept.state, State { account, maximum: 32, check: 0 });
 }
 
 #[test]
 fn fresh_states() {
-    for maximum in 0..=1000 {
-        let (answer, state) = fresh(maximum);
-        let allowed = (1..=240).contains(&maximum);
-        assert_eq!(answer, if allowed { 0 } else { 16 }, "{maximum}");
-        let expected = if allowed { u64::from(maximum) } else { 240 };
-        assert_eq!(state, State { account: Account::default(), maximum: expected });
-        assert!(state::is_sound(&state));
+    for (check, number) in [(false, 0), (true, 1)] {
+        for maximum in 0..=1000 {
+            let (answer, state) = fresh(maximum, check);
+            let allowed = (1..=240).contains(&maximum);
+            assert_eq!(answer, if allowed { 0 } else { 16 }, "{maximum}");
+            let expected = if allowed { u64::from(maximum) } else { 240 };
+            let account = Account::default();
+            assert_eq!(state, State { account, maximum: expected, check: number });
+            assert!(state::is_sound(&state));
+        }
+        assert_eq!(fresh(u32::MAX, check), fresh(0, check));
     }
-    assert_eq!(fresh(u32::MAX), fresh(0));
 }
 
 #[test]
 fn numbers_and_states_are_the_same_thing() {
     let numbers: [u64; NUMBERS] = std::array::from_fn(|place| 1000 + place as u64);
-    let state = State::of_numbers(numbers);
-    assert_eq!(state.numbers(), numbers);
+    let state = State::of_numbers(numbers, 7);
+    assert_eq!((state.numbers(), state.check), (numbers, 7));
     let account = state.account;
     assert_eq!(account.grid[Fate::Sent as usize], [1000, 1001, 1002]);
     assert_eq!(account.grid[Fate::BadLength as usize], [1024, 1025, 1026]);
-    assert_eq!((account.open_fragments, account.open_bytes), (1027, 1028));
-    assert_eq!((account.taken, account.refused, account.total), (1029, 1030, 1031));
+    assert_eq!(account.grid[Fate::BadCheck as usize], [1027, 1028, 1029]);
+    assert_eq!((account.open_fragments, account.open_bytes), (1030, 1031));
+    assert_eq!((account.taken, account.refused, account.total), (1032, 1033, 1034));
     assert_eq!(account.numbers(), numbers[..account::NUMBERS]);
     assert_eq!(Account::of_numbers(account.numbers()), account);
-    assert_eq!(state.maximum, 1032);
+    assert_eq!(state.maximum, 1035);
 }
 
 #[test]
@@ -250,10 +278,145 @@ fn fragments_onto_an_open_packet() {
     }
 }
 
+#[test]
+fn a_wrong_middle_breaks_the_open_packet() {
+    let mut kept = Kept::with_check(240, true);
+    let store = |kept: &Kept| kept.store.clone();
+    assert_eq!(kept.transact(&right(0x84, &data(20))), (0, 0));
+    let before = store(&kept);
+    assert_eq!(kept.transact(&wrong(0x04, &data(30), 0x01)), (17, 0));
+    let mut account = Account { total: 2, ..Account::default() };
+    account.grid[Fate::Broken as usize] = [1, 1, 20];
+    account.grid[Fate::BadCheck as usize] = [0, 1, 0];
+    assert_eq!(kept.state, State { account, maximum: 240, check: 1 });
+    assert_eq!(kept.transact(&right(0x44, &data(40))), (2, 0));
+    account.grid[Fate::Aborted as usize] = [0, 1, 40];
+    account.total = 3;
+    assert_eq!(kept.state, State { account, maximum: 240, check: 1 });
+    assert_eq!(store(&kept), before);
+    assert_eq!(kept.transact(&right(0xc4, &data(17))), (1, 60));
+}
+
+#[test]
+fn a_wrong_receive_enable_changes_no_settings_and_brings_no_mac() {
+    let mut long = [0x33; 14];
+    long[0] = 0xc9;
+    let mut kept = Kept::with_check(240, true);
+    let before = kept.settings.clone();
+    for turned in 1..=255 {
+        assert_eq!(kept.transact(&wrong(0xca, &long, turned)), (17, 0));
+        assert_eq!(kept.settings, before);
+    }
+    assert_eq!(kept.transact(&right(0xca, &[0xc1])), (10, 0));
+    assert_eq!(kept.settings, before);
+    assert_eq!(kept.transact(&right(0xca, &long)), (11, 0));
+    assert_eq!(kept.transact(&wrong(0xca, &[0x41], 0x80)), (17, 0));
+    assert_eq!(kept.settings[..2], [0xc9, 3]);
+    assert_eq!(kept.transact(&right(0xca, &[0xc1])), (11, 0));
+    let account = kept.state.account;
+    assert_eq!(account.grid[Fate::BadCheck as usize], [0, 256, 0]);
+    assert_eq!((account.taken, account.refused, account.total), (2, 1, 259));
+}
+
+/// Whatever its command, its length and the maximum, and whatever is open.
+#[test]
+fn a_wrong_code_is_counted_alike_for_every_command() {
+    for maximum in [1, 19, 20, 240] {
+        for command in 0..=255 {
+            for (bytes, open) in [(0, false), (1, true), (14, false), (20, true), (255, true)] {
+                let mut kept = Kept::with_check(maximum, true);
+                let mut account = Account { total: 1, ..Account::default() };
+                if open {
+                    assert_eq!(kept.transact(&right(0x84, &[0x11])), (0, 0));
+                    account.grid[Fate::Broken as usize] = [1, 1, 1];
+                    account.total += 1;
+                }
+                account.grid[Fate::BadCheck as usize] = [0, 1, 0];
+                let before = kept.clone();
+                assert_eq!(
+                    kept.transact(&wrong(command, &data(bytes), 1 << (command % 8))),
+                    (17, 0)
+                );
+                assert_eq!(kept.state, State { account, maximum: maximum.into(), check: 1 });
+                assert_eq!(kept.store, before.store);
+                assert_eq!(kept.settings, before.settings);
+            }
+        }
+    }
+}
+
+#[test]
+fn only_the_right_code_is_taken_and_only_with_the_check_on() {
+    let good = right(0xc4, &data(20));
+    for check in [false, true] {
+        for code in 0..=255 {
+            let mut kept = Kept::with_check(240, check);
+            let taken = !check || code == good.code;
+            let (answer, _) = kept.transact(&Transaction { code, ..good.clone() });
+            assert_eq!(answer, if taken { 1 } else { 17 }, "{check} {code}");
+        }
+        for address in 0..=255 {
+            let mut kept = Kept::with_check(240, check);
+            let taken = !check || address == good.address;
+            let (answer, _) = kept.transact(&Transaction { address, ..good.clone() });
+            assert_eq!(answer, if taken { 1 } else { 17 }, "{check} {address}");
+        }
+    }
+}
+
+#[test]
+fn more_data_than_one_byte_can_count() {
+    for (command, answer) in [(0x84, 3), (0x04, 3), (0x44, 3), (0xc4, 3), (0xca, 8), (0x05, 7)] {
+        for bytes in [254, 255, 256, 257, 511, 512, 1000] {
+            let transaction = right(command, &data(bytes));
+            let on = Kept::with_check(240, true).transact(&transaction);
+            assert_eq!(on, (if bytes > 255 { 17 } else { answer }, 0), "{command} {bytes}");
+            let off = Kept::with_check(240, false).transact(&transaction);
+            assert_eq!(off, (answer, 0), "{command} {bytes}");
+            for code in 0..=255 {
+                let any = Transaction { code, ..transaction.clone() };
+                let right = bytes <= 255 && code == transaction.code;
+                let expected = if right { answer } else { 17 };
+                assert_eq!(
+                    Kept::with_check(240, true).transact(&any).0,
+                    expected,
+                    "{bytes} {code}"
+                );
+            }
+        }
+    }
+}
+
+#[test]
+fn twelve_thirteen_and_fourteen_come_before_seventeen() {
+    let transaction = wrong(0xc4, &data(20), 0x04);
+    for kind in 0..7 {
+        let mut kept = Kept::with_check(240, true);
+        rejected_call(&mut kept, &transaction, kind);
+    }
+    for check in 2..=255 {
+        let mut kept = Kept::with_check(240, true);
+        kept.state.check = check;
+        let before = kept.clone();
+        assert_eq!(kept.transact(&transaction), (13, 0));
+        assert_eq!(kept.transact(&right(0xc4, &data(20))), (13, 0));
+        assert_eq!(kept, before);
+    }
+    let mut kept = Kept::with_check(240, true);
+    kept.state.account.refused = HIGHEST_TOTAL - 1;
+    kept.state.account.total = HIGHEST_TOTAL - 1;
+    assert_eq!(kept.transact(&transaction), (17, 0));
+    let full = kept.clone();
+    assert_eq!(kept.transact(&transaction), (14, 0));
+    assert_eq!(kept, full);
+}
+
 /// Draws transactions, most of them fragments in a plausible order.
 struct Controller {
     random: Random,
     maximum: usize,
+    /// Whether check bytes are looked at.
+    check: bool,
     /// How many transactions there are for one that is out of order.
     calm: u64,
     /// How many fragments there are for a Last.
@@ -267,7 +430,18 @@ impl Controller {
         let maximum = random.pick(&[1, 2, 3, 17, 32, 64, 200, 239, 240]);
         let calm = random.pick(&[4, 4, 40]);
         let fragments = random.pick(&[4, 8, 16]);
-        Controller { random, maximum, calm, fragments, sending: false }
+        let check = random.one_in(2);
+        Controller { random, maximum, check, calm, fragments, sending: false }
+    }
+
+    /// What it finds at the start.
+    fn kept(&self) -> Kept {
+        Kept::with_check(self.maximum as u32, self.check)
+    }
+
+    fn history<'a>(&self, list: &'a [Transaction]) -> History<'a> {
+        let maximum = self.maximum as u64;
+        History::of(Setup { maximum, check: self.check, mac_kept_before: false }, list)
     }
 
     fn transaction(&mut self) -> Transaction {
@@ -289,7 +463,10 @@ impl Controller {
         if command == 0xca && length > 0 && !self.random.one_in(4) {
             data[0] = self.random.pick(&[0x40, 0x41, 0x49, 0xc1, 0xc9]);
         }
-        Transaction { command, data, link_up }
+        let address = self.random.byte();
+        let wrong = !self.check || self.random.one_in(2 * self.calm);
+        let code = if wrong { self.random.byte() } else { code(address, command, &data).1 };
+        Transaction { address, command, data, code, link_up }
     }
 
     fn good_length(&mut self) -> usize {
@@ -311,15 +488,15 @@ impl Controller {
 }
 
 /// The partition, counted over the places of the list.
-fn assert_partition(account: &Account, history: History) {
+fn assert_partition(account: &Account, history: &History, length: usize) {
     assert!(account::is_sound(account));
     let in_grid: u64 = account.grid.iter().map(|row| row[FRAGMENTS]).sum();
     let beside = account.open_fragments + account.taken + account.refused;
     assert_eq!(account.total, in_grid + beside);
-    assert_eq!(account.total, history.list.len() as u64);
+    assert_eq!(account.total, length as u64);
 
     let (mut rows, mut open, mut taken, mut refused) = ([0; ROWS.len()], 0, 0, 0);
-    for number in 0..history.list.len() {
+    for number in 0..length {
         match history.place(number) {
             Place::InRun(run) => match history.fate(run) {
                 Some(fate) => rows[fate as usize] += 1,
@@ -327,6 +504,7 @@ fn assert_partition(account: &Account, history: History) {
             },
             Place::Aborted => rows[Fate::Aborted as usize] += 1,
             Place::BadLength => rows[Fate::BadLength as usize] += 1,
+            Place::BadCheck => rows[Fate::BadCheck as usize] += 1,
             Place::Taken => taken += 1,
             Place::Refused(_) => refused += 1,
         }
@@ -355,6 +533,10 @@ fn rejected_call(kept: &mut Kept, transaction: &Transaction, kind: u64) {
             lent.state.maximum = [0, 241, 1 << 63][transaction.data.len() % 3];
             13
         }
+        6 => {
+            lent.state.check = [2, 3, 255][transaction.data.len() % 3];
+            13
+        }
         4 => {
             lent.settings[1] |= 4;
             13
@@ -381,24 +563,24 @@ fn rejected_call(kept: &mut Kept, transaction: &Transaction, kind: u64) {
 #[test]
 fn translator_and_history_agree() {
     let mut packets_of = [0; ROWS.len()];
+    let mut bad_checks = 0;
     for seed in 0..2000 {
         let mut controller = Controller::new(seed);
-        let mut kept = Kept::fresh(controller.maximum as u32);
+        let mut kept = controller.kept();
         let mut list: Vec<Transaction> = Vec::new();
         let length = 10 + controller.random.below(60);
         for _ in 0..length {
             let transaction = controller.transaction();
             if controller.random.one_in(12) {
-                let kind = controller.random.below(6);
+                let kind = controller.random.below(7);
                 rejected_call(&mut kept, &transaction, kind);
             }
             let before = kept.clone();
             let (answer, sent) = kept.transact(&transaction);
             list.push(transaction);
-            let history =
-                History { maximum: controller.maximum as u64, mac_kept_before: false, list: &list };
-            let maximum = history.maximum;
-            let state = State { account: history.account(), maximum };
+            let history = controller.history(&list);
+            let (maximum, check) = (controller.maximum as u64, u8::from(controller.check));
+            let state = State { account: history.account(), maximum, check };
             assert_eq!(kept.state, state, "seed {seed}");
             assert_eq!((answer, u64::from(sent)), history.answer(list.len() - 1), "seed {seed}");
             if answer == 1 {
@@ -410,7 +592,7 @@ fn translator_and_history_agree() {
                 let stored: Vec<u8> = history.stored(run).collect();
                 assert_eq!(kept.store[..stored.len()], stored, "seed {seed}");
             }
-            if matches!(answer, 2 | 3 | 7..=11) {
+            if matches!(answer, 2 | 3 | 7..=11 | 17) {
                 assert_eq!(kept.store, before.store, "seed {seed}");
             }
             if answer != 11 {
@@ -419,25 +601,26 @@ fn translator_and_history_agree() {
             assert_eq!(kept.store[1536..], [0xdd; 4]);
             assert_eq!(kept.settings[15..], [0xee; 2]);
         }
-        let history =
-            History { maximum: controller.maximum as u64, mac_kept_before: false, list: &list };
-        assert_partition(&kept.state.account, history);
+        let history = controller.history(&list);
+        assert_partition(&kept.state.account, &history, list.len());
         assert_eq!(history.sent().count() as u64, kept.state.account.grid[0][PACKETS]);
         for (packets, row) in packets_of.iter_mut().zip(kept.state.account.grid) {
             *packets += row[PACKETS];
         }
+        bad_checks += kept.state.account.grid[Fate::BadCheck as usize][FRAGMENTS];
     }
     // Lists in which some fate never comes would show little.
     for fate in &ROWS[..7] {
         assert!(packets_of[*fate as usize] > 100, "{fate:?}: {packets_of:?}");
     }
+    assert!(bad_checks > 1000, "{bad_checks}");
 }
 
 #[test]
 fn lines_of_other_fates_stay() {
     for seed in 0..500 {
         let mut controller = Controller::new(7000 + seed);
-        let mut kept = Kept::fresh(controller.maximum as u32);
+        let mut kept = controller.kept();
         for _ in 0..40 {
             let before = kept.state.account;
             let (answer, _) = kept.transact(&controller.transaction());
@@ -450,6 +633,7 @@ fn lines_of_other_fates_stay() {
                 4 => &[Fate::Over, Fate::Superseded],
                 5 => &[Fate::Short, Fate::Superseded],
                 6 => &[Fate::LinkDown, Fate::Superseded],
+                17 => &[Fate::BadCheck, Fate::Broken],
                 _ => &[Fate::Flushed],
             };
             for fate in ROWS {
@@ -461,6 +645,7 @@ fn lines_of_other_fates_stay() {
             assert_eq!(after.refused - before.refused, u64::from((7..=10).contains(&answer)));
             assert_eq!(after.total - before.total, 1);
             assert_eq!(kept.state.maximum, controller.maximum as u64);
+            assert_eq!(kept.state.check, u8::from(controller.check));
         }
     }
 }
@@ -481,6 +666,8 @@ fn expected_sound(account: &Account) -> bool {
         && account.grid[7][PACKETS] == 0
         && account.grid[8][PACKETS] == 0
         && account.grid[8][BYTES] == 0
+        && account.grid[9][PACKETS] == 0
+        && account.grid[9][BYTES] == 0
         && account.open_bytes >= account.open_fragments
         && account.open_bytes <= 240 * account.open_fragments
 }
@@ -493,16 +680,17 @@ fn soundness_of_any_numbers() {
     for _ in 0..100_000 {
         let numbers =
             std::array::from_fn(|_| if random.one_in(9) { random.pick(&extremes) } else { 0 });
-        let mut state = State::of_numbers(numbers);
+        let mut state = State::of_numbers(numbers, random.pick(&[0, 0, 1, 1, 2, 255]));
         state.maximum = random.pick(&[0, 1, 100, 240, 240, 241, 1 << 63]);
         // Nearly all totals are right but for what is past 64 bits.
         if !random.one_in(8) {
             state.account.total = lines(&state.account).fold(0, u64::wrapping_add);
         }
-        let State { account, maximum } = state;
+        let State { account, maximum, check } = state;
         let account_sound = expected_sound(&account);
         let state_sound = account_sound
             && (1..=240).contains(&maximum)
+            && check < 2
             && account.open_bytes <= maximum * account.open_fragments;
         assert_eq!(account::is_sound(&account), account_sound, "{account:?}");
         assert_eq!(state::is_sound(&state), state_sound, "{state:?}");
@@ -525,7 +713,7 @@ fn an_account_is_sound_whatever_the_maximum() {
         ] {
             let account = Account { open_fragments: 3, open_bytes, total: 3, ..Account::default() };
             let mut kept = Kept::fresh(240);
-            kept.state = State { account, maximum };
+            kept.state = State { account, maximum, check: 0 };
             let answer = kept.send(0x44, 1, true);
             assert_eq!(answer != 13, sound, "{maximum} {open_bytes}");
             let length = print(&account, &mut [0; ENOUGH_ROOM]);

@@ -1,11 +1,11 @@
 //! What is carried from one case to the next, and the check of the translator
 //! against the history.
 
-use reference::answer_numbers::{ACCOUNT_FULL, DONE, NOT_SOUND, PACKET_SENT, TOO_SHORT};
-use reference::history::{History, Transaction};
+use reference::answer_numbers::{ACCOUNT_FULL, BAD_CHECK, DONE, NOT_SOUND, PACKET_SENT, TOO_SHORT};
+use reference::history::{History, Setup, Transaction};
 use reference::packet::{self, LONGEST_PACKET};
 use reference::settings::{self, MAC_KEPT};
-use reference::state::{self, State};
+use reference::state::{self, State, CHECK_ON};
 use reference::translator;
 
 /// How the translator and the history disagree.
@@ -25,31 +25,24 @@ pub struct Carried {
 
 /// The counted transactions since the state was fresh.
 struct SinceFresh {
-    maximum: u64,
-    mac_kept_before: bool,
+    setup: Setup,
     list: Vec<Transaction>,
-}
-
-impl SinceFresh {
-    fn history(&self) -> History<'_> {
-        let SinceFresh { maximum, mac_kept_before, list } = self;
-        History { maximum: *maximum, mac_kept_before: *mac_kept_before, list }
-    }
 }
 
 impl Carried {
     /// Carries these from here on.
     pub fn start(state: State, store: Vec<u8>, settings: Vec<u8>) -> Carried {
+        let check = state.check == CHECK_ON;
         let is_fresh = u32::try_from(state.maximum)
-            .map_or(false, |maximum| state::fresh(maximum) == (DONE, state));
+            .map_or(false, |maximum| state::fresh(maximum, check) == (DONE, state));
         // Without room or sound settings no transaction is ever counted; with
         // them, and from a fresh state on, each is.
         let has_room = store.len() as u64 >= LONGEST_PACKET;
         let is_counted = is_fresh && has_room && settings::is_sound(&settings);
-        let since_fresh = is_counted.then(|| SinceFresh {
-            maximum: state.maximum,
-            mac_kept_before: settings[1] & MAC_KEPT != 0,
-            list: Vec::new(),
+        let since_fresh = is_counted.then(|| {
+            let mac_kept_before = settings[1] & MAC_KEPT != 0;
+            let setup = Setup { maximum: state.maximum, check, mac_kept_before };
+            SinceFresh { setup, list: Vec::new() }
         });
         Carried { state, store, settings, since_fresh }
     }
@@ -57,14 +50,17 @@ impl Carried {
     /// Does one transaction: the answer and the sent length.
     pub fn transact(&mut self, transaction: Transaction) -> Result<(u8, u16), Disagreement> {
         let before = (self.state, self.store.clone(), self.settings.clone());
+        let Transaction { address, command, code, link_up, .. } = transaction;
         let (answer, sent) = translator::transact(
             &mut self.state,
             &mut self.store,
             &mut self.settings,
-            transaction.command,
+            translator::Transaction { address, command, code, link_up },
             &transaction.data,
-            transaction.link_up,
         );
+        if answer == BAD_CHECK && (&before.1, &before.2) != (&self.store, &self.settings) {
+            return Err("a transaction with a wrong check byte changes store or settings");
+        }
         if [TOO_SHORT, NOT_SOUND, ACCOUNT_FULL].contains(&answer) {
             if before != (self.state, self.store.clone(), self.settings.clone()) {
                 return Err("a transaction that is not counted changes something");
@@ -76,17 +72,18 @@ impl Carried {
             since_fresh.list.push(transaction);
         }
         if let Some(since_fresh) = &self.since_fresh {
-            self.check(since_fresh.history(), answer, sent)?;
+            self.check(since_fresh, answer, sent)?;
         }
         Ok((answer, sent))
     }
 
-    fn check(&self, history: History, answer: u8, sent: u16) -> Result<(), Disagreement> {
-        let state = State { account: history.account(), maximum: history.maximum };
-        if self.state != state {
+    fn check(&self, since: &SinceFresh, answer: u8, sent: u16) -> Result<(), Disagreement> {
+        let history = History::of(since.setup, &since.list);
+        let (account, Setup { maximum, check, .. }) = (history.account(), since.setup);
+        if self.state != (State { account, maximum, check: u8::from(check) }) {
             return Err("another state");
         }
-        if (answer, u64::from(sent)) != history.answer(history.list.len() - 1) {
+        if (answer, u64::from(sent)) != history.answer(since.list.len() - 1) {
             return Err("another answer");
         }
         if answer == PACKET_SENT {

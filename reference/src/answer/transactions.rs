@@ -1,14 +1,16 @@
-//! Answers cases of the store, the account, the state and transactions.
+//! Answers cases of the store, the account, the state, check bytes and
+//! transactions.
 
 use reference::account::{self, Account};
+use reference::answer_numbers::DONE;
 use reference::history::Transaction;
-use reference::packet;
 use reference::state::{self, State};
+use reference::{packet, pec};
 
 use super::carried::Carried;
 use super::{digest, Stopped};
 use crate::pattern::pattern;
-use crate::text::{bytes_of, Fields, Line, NotACase};
+use crate::text::{bytes_of_state, Fields, Line, NotACase};
 
 /// The largest store that is carried, and the most data made by a pattern.
 const MOST_BYTES: u16 = 2048;
@@ -16,6 +18,12 @@ const MOST_BYTES: u16 = 2048;
 const MOST_SETTINGS: usize = 64;
 
 const NUMBER_BYTES: usize = 8;
+
+/// What stands for the address byte and the check byte where none is given.
+const NONE_GIVEN: u8 = 0;
+
+/// What takes the data of a transaction from the fields.
+pub type TakeData = fn(&mut Fields) -> Result<Vec<u8>, NotACase>;
 
 /// Fills a packet up in a store.
 pub fn fill(mut fields: Fields) -> Result<Line, Stopped> {
@@ -44,9 +52,10 @@ pub fn sound_account(mut fields: Fields) -> Result<Line, Stopped> {
 /// Makes a fresh state.
 pub fn fresh_state(mut fields: Fields) -> Result<Line, Stopped> {
     let maximum = fields.u32()?;
+    let check = fields.bool()?;
     fields.end()?;
-    let (answer, state) = state::fresh(maximum);
-    Ok(Line::answer().u8(answer).numbers(&state.numbers()))
+    let (answer, state) = state::fresh(maximum, check);
+    Ok(Line::answer().u8(answer).state(&state))
 }
 
 /// Tells whether a state is sound.
@@ -69,28 +78,57 @@ pub fn start(carried: &mut Carried, mut fields: Fields) -> Result<Line, Stopped>
     Ok(Line::answer().bool(state::is_sound(&state)))
 }
 
-/// Does a transaction on what is carried.
-pub fn send(carried: &mut Carried, mut fields: Fields) -> Result<Line, Stopped> {
-    let command = fields.u8()?;
-    let link_up = fields.bool()?;
-    let data = fields.bytes()?;
+/// The code of any bytes, bit by bit and by the table.
+pub fn crc(mut fields: Fields) -> Result<Line, Stopped> {
+    let start = fields.u8()?;
+    let bytes = fields.bytes()?;
     fields.end()?;
-    transact(carried, Transaction { command, data, link_up })
+    Ok(Line::answer().u8(pec::by_bits(start, &bytes)).u8(pec::by_table(start, &bytes)))
 }
 
-/// Does a transaction on what is carried, its data made by a pattern.
-pub fn send_pattern(carried: &mut Carried, mut fields: Fields) -> Result<Line, Stopped> {
+/// The code of a transaction, its data taken from the fields.
+pub fn code(mut fields: Fields, data: TakeData) -> Result<Line, Stopped> {
+    let address = fields.u8()?;
+    let command = fields.u8()?;
+    let data = data(&mut fields)?;
+    fields.end()?;
+    let (answer, code) = pec::code(address, command, &data);
+    let transaction = Transaction { address, command, data, code, link_up: false };
+    if transaction.code_right() != (answer == DONE) {
+        return Err(Stopped::Disagreement("another code"));
+    }
+    Ok(Line::answer().u8(answer).u8(code))
+}
+
+/// Does a transaction on what is carried, its data taken from the fields.
+pub fn send(carried: &mut Carried, mut fields: Fields, data: TakeData) -> Result<Line, Stopped> {
     let command = fields.u8()?;
     let link_up = fields.bool()?;
-    let data = limited_pattern(&mut fields)?;
+    let data = data(&mut fields)?;
     fields.end()?;
-    transact(carried, Transaction { command, data, link_up })
+    let (address, code) = (NONE_GIVEN, NONE_GIVEN);
+    transact(carried, Transaction { address, command, data, code, link_up })
+}
+
+/// The same with an address byte and a check byte.
+pub fn send_coded(
+    carried: &mut Carried,
+    mut fields: Fields,
+    data: TakeData,
+) -> Result<Line, Stopped> {
+    let address = fields.u8()?;
+    let command = fields.u8()?;
+    let link_up = fields.bool()?;
+    let data = data(&mut fields)?;
+    let code = fields.u8()?;
+    fields.end()?;
+    transact(carried, Transaction { address, command, data, code, link_up })
 }
 
 /// Shows the state and the settings that are carried.
 pub fn show(carried: &Carried, fields: Fields) -> Result<Line, Stopped> {
     fields.end()?;
-    Ok(Line::answer().numbers(&carried.state.numbers()).bytes(&carried.settings))
+    Ok(Line::answer().state(&carried.state).bytes(&carried.settings))
 }
 
 /// Shows a part of the store that is carried.
@@ -105,7 +143,7 @@ fn transact(carried: &mut Carried, transaction: Transaction) -> Result<Line, Sto
     Ok(Line::answer()
         .u8(answer)
         .u16(sent)
-        .u32(digest(&bytes_of(&carried.state.numbers())))
+        .u32(digest(&bytes_of_state(&carried.state)))
         .u32(digest(&carried.store))
         .u32(digest(&carried.settings)))
 }
@@ -116,7 +154,13 @@ fn store(fields: &mut Fields) -> Result<Vec<u8>, NotACase> {
     Ok(pattern(size, seed))
 }
 
-fn limited_pattern(fields: &mut Fields) -> Result<Vec<u8>, NotACase> {
+/// Takes data as it is given.
+pub fn given(fields: &mut Fields) -> Result<Vec<u8>, NotACase> {
+    fields.bytes()
+}
+
+/// Takes a size and a seed, and gives the bytes of that pattern.
+pub fn limited_pattern(fields: &mut Fields) -> Result<Vec<u8>, NotACase> {
     let size = fields.u16()?;
     let seed = fields.u8()?;
     limited(size, seed)
@@ -137,15 +181,16 @@ fn part(part: &[u8]) -> Line {
 
 /// Takes an account.
 pub fn account(fields: &mut Fields) -> Result<Account, NotACase> {
-    Ok(Account::of_numbers(numbers(fields)?))
+    Ok(Account::of_numbers(numbers(&fields.bytes()?)?))
 }
 
 fn state(fields: &mut Fields) -> Result<State, NotACase> {
-    Ok(State::of_numbers(numbers(fields)?))
+    let bytes = fields.bytes()?;
+    let (check, bytes) = bytes.split_last().ok_or("a state of no bytes")?;
+    Ok(State::of_numbers(numbers(bytes)?, *check))
 }
 
-fn numbers<const COUNT: usize>(fields: &mut Fields) -> Result<[u64; COUNT], NotACase> {
-    let bytes = fields.bytes()?;
+fn numbers<const COUNT: usize>(bytes: &[u8]) -> Result<[u64; COUNT], NotACase> {
     if bytes.len() != COUNT * NUMBER_BYTES {
         return Err("numbers of the wrong size");
     }

@@ -40,14 +40,25 @@ pub fn busy() -> Account {
         let place = place as u64;
         *row = [3 + place, 20 + 3 * place, 700 + 11 * place];
     }
-    account.grid[Fate::Aborted as usize][PACKETS] = 0;
-    account.grid[Fate::BadLength as usize][PACKETS] = 0;
-    account.grid[Fate::BadLength as usize][BYTES] = 0;
+    clear_what_is_not_counted(&mut account);
     account.open_fragments = 4;
     account.open_bytes = 333;
     account.taken = 51;
     account.refused = 62;
     summed(account)
+}
+
+/// Takes packets and bytes out of the rows that have none.
+pub fn clear_what_is_not_counted(account: &mut Account) {
+    for fate in ROWS {
+        let row = &mut account.grid[fate as usize];
+        if !fate.has_packets() {
+            row[PACKETS] = 0;
+        }
+        if !fate.has_bytes() {
+            row[BYTES] = 0;
+        }
+    }
 }
 
 /// Accounts at the edges of what is sound.
@@ -61,12 +72,12 @@ pub fn sound() -> Vec<Named> {
     add("every number in use", &|_| {});
     for fate in ROWS {
         let row = fate as usize;
-        if fate != Fate::Aborted && fate != Fate::BadLength {
+        if fate.has_packets() {
             add(&format!("{}: packets equal to fragments", row_name(fate)), &|account| {
                 account.grid[row][PACKETS] = account.grid[row][FRAGMENTS];
             });
         }
-        if fate != Fate::BadLength {
+        if fate.has_bytes() {
             add(&format!("{}: bytes 240 times fragments", row_name(fate)), &|account| {
                 account.grid[row][BYTES] = 240 * account.grid[row][FRAGMENTS];
             });
@@ -165,16 +176,20 @@ fn single(all: &mut Vec<Named>) {
             account.grid[row] = [1, 0, 0];
         });
     }
-    for fate in [Fate::Aborted, Fate::BadLength] {
+    for fate in [Fate::Aborted, Fate::BadLength, Fate::BadCheck] {
         add(&format!("{}: a packet", row_name(fate)), true, &|account| {
             account.grid[fate as usize][PACKETS] = 1;
         });
     }
-    add("badlength: a byte", true, &|account| account.grid[Fate::BadLength as usize][BYTES] = 1);
-    add("badlength: a byte for each fragment", true, &|account| {
-        let row = &mut account.grid[Fate::BadLength as usize];
-        row[BYTES] = row[FRAGMENTS];
-    });
+    for fate in [Fate::BadLength, Fate::BadCheck] {
+        let row = fate as usize;
+        add(&format!("{}: a byte", row_name(fate)), true, &|account| {
+            account.grid[row][BYTES] = 1;
+        });
+        add(&format!("{}: a byte for each fragment", row_name(fate)), true, &|account| {
+            account.grid[row][BYTES] = account.grid[row][FRAGMENTS];
+        });
+    }
     for (name, fragments, bytes) in [
         ("open bytes one below open fragments", 4, 3),
         ("open fragments and no open byte", 4, 0),
@@ -308,10 +323,10 @@ pub fn random_sound(random: &mut Random, maximum: u64) -> Account {
         let fragments = random.below(1000);
         let row = &mut account.grid[fate as usize];
         row[FRAGMENTS] = fragments;
-        if fate != Fate::Aborted && fate != Fate::BadLength {
+        if fate.has_packets() {
             row[PACKETS] = random.between(0, fragments);
         }
-        if fate != Fate::BadLength {
+        if fate.has_bytes() {
             row[BYTES] = random.between(0, LONGEST_FRAGMENT * fragments);
         }
     }

@@ -1,6 +1,9 @@
 //! A controller that draws random transactions.
 
+use super::transactions::rightly_coded;
+use crate::pattern::pattern;
 use crate::random::Random;
+use reference::translator::Transaction;
 
 /// Longer data is given as a pattern.
 const LONGEST_GIVEN: u64 = 24;
@@ -28,6 +31,16 @@ pub struct Drawn {
     pub data: Data,
 }
 
+impl Drawn {
+    /// Its data bytes as they are.
+    pub fn bytes(&self) -> Vec<u8> {
+        match &self.data {
+            Data::Given(data) => data.clone(),
+            Data::Pattern { size, seed } => pattern(*size, *seed),
+        }
+    }
+}
+
 /// Data bytes.
 pub enum Data {
     /// These.
@@ -51,6 +64,18 @@ impl Controller {
         } else {
             self.out_of_order()
         }
+    }
+
+    /// A drawn transaction under some address, its check byte wrong once in a
+    /// while.
+    pub fn coded(&mut self, drawn: &Drawn, data: &[u8]) -> Transaction {
+        let right = rightly_coded(self.random.byte(), drawn.command, drawn.link_up, data);
+        let turned = match self.random.below(24) {
+            0 => 1 << self.random.below(8),
+            1 => self.random.byte(),
+            _ => 0,
+        };
+        Transaction { code: right.code ^ turned, ..right }
     }
 
     /// The next fragment of a packet, or the first of a new one.

@@ -1,12 +1,13 @@
 //! Cases of journals.
 
-use super::controller::{Controller, Data};
-use super::transactions::named_lists;
+use super::controller::Controller;
+use super::transactions::{named_checked_lists, named_lists, rightly_coded, Whole};
 use super::Cases;
+use crate::journal_writer::JournalWriter;
 use crate::pattern::pattern;
 use crate::random::Random;
 use crate::text::{Line, LONGEST_LINE};
-use reference::journal::HEADER_START;
+use reference::journal::{Version, VERSIONS};
 
 const SEED: u64 = 0x0010_0411;
 
@@ -18,8 +19,12 @@ const MOST_DATA: usize = u8::MAX as usize;
 /// Stands for one piece that is the whole journal.
 const WHOLE: u16 = 0;
 /// Around the sizes of headers, of heads of records and of the longest record.
-const PIECES: [u16; 19] =
-    [WHOLE, 1, 2, 3, 4, 5, 6, 7, 9, 16, 64, 240, 243, 255, 256, 257, 258, 259, 1000];
+const PIECES: [u16; 22] =
+    [WHOLE, 1, 2, 3, 4, 5, 6, 7, 9, 16, 64, 240, 243, 255, 256, 257, 258, 259, 260, 261, 262, 1000];
+const FEW_PIECES: [u16; 5] = [WHOLE, 1, 2, 3, 7];
+
+/// The address byte of every record that has one, unless it is drawn.
+const ADDRESS: u8 = 0x92;
 
 const MAXIMUMS: [u8; 15] = [1, 2, 3, 8, 16, 17, 20, 32, 48, 64, 100, 128, 200, 239, 240];
 /// How many transactions there are for one that is out of order.
@@ -31,7 +36,7 @@ const BAD: &str = "bad journal";
 /// Name, bytes, and whether there is an account.
 type Named = (&'static str, &'static [u8], &'static str);
 
-const HEADERS: [Named; 32] = [
+const HEADERS: [Named; 46] = [
     ("no bytes", b"", BAD),
     ("one byte of a header", b"T", BAD),
     ("two bytes of a header", b"TC", BAD),
@@ -51,7 +56,21 @@ const HEADERS: [Named; 32] = [
     ("maximum 0 and a record", b"TCO\x01\x00\x00\xc4\x01\x01\x55", BAD),
     ("maximum 241 and a record", b"TCO\x01\x00\xf1\xc4\x01\x01\x55", BAD),
     ("version 0", b"TCO\x00\x00\x20", BAD),
-    ("version 2", b"TCO\x02\x00\x20", BAD),
+    ("version 0 and a record", b"TCO\x00\x00\x20\xc4\x01\x01\x55", BAD),
+    ("version 2, maximum 0", b"TCO\x02\x00\x00", BAD),
+    ("version 2, maximum 1", b"TCO\x02\x00\x01", GOOD),
+    ("version 2, maximum 32", b"TCO\x02\x00\x20", GOOD),
+    ("version 2, maximum 240", b"TCO\x02\x00\xf0", GOOD),
+    ("version 2, maximum 241", b"TCO\x02\x00\xf1", BAD),
+    ("version 2 without the maximum", b"TCO\x02\x00", BAD),
+    ("version 2 cut in the version", b"TCO\x02", BAD),
+    ("version 3", b"TCO\x03\x00\x20", BAD),
+    ("version 3 and a record", b"TCO\x03\x00\x20\x92\xc4\x01\x01\x55\x00", BAD),
+    ("version 4", b"TCO\x04\x00\x20", BAD),
+    ("version 258", b"TCO\x02\x01\x20", BAD),
+    ("version 512, which is 2 high byte first", b"TCO\x00\x02\x20", BAD),
+    ("version 513", b"TCO\x01\x02\x20", BAD),
+    ("version 2, another name", b"TCP\x02\x00\x20", BAD),
     ("version 255", b"TCO\xff\x00\x20", BAD),
     ("version 256, which is 1 high byte first", b"TCO\x00\x01\x20", BAD),
     ("version 257", b"TCO\x01\x01\x20", BAD),
@@ -100,41 +119,65 @@ const RECORDS: [Named; 30] = [
     ("a zero behind the last record", b"\xc4\x01\x01\x11\x00", BAD),
 ];
 
-/// A journal that is being written.
-struct Journal {
-    bytes: Vec<u8>,
-}
-
-impl Journal {
-    fn new(maximum: u8) -> Journal {
-        Journal { bytes: [&HEADER_START[..], &[maximum]].concat() }
-    }
-
-    /// Adds a record.
-    fn record(&mut self, command: u8, link_up: bool, data: &[u8]) {
-        assert!(data.len() <= MOST_DATA);
-        self.bytes.extend([command, u8::from(link_up), data.len() as u8]);
-        self.bytes.extend(data);
-    }
-}
+/// Behind a header of version 2 for maximum 32.
+const CHECKED_RECORDS: [Named; 30] = [
+    ("a record without data", b"\x92\x05\x01\x00\x00", GOOD),
+    ("a record of one byte", b"\x92\xc4\x01\x01\x11\x00", GOOD),
+    ("two records", b"\x92\x84\x01\x01\x11\x00\x92\x44\x00\x02\x22\x33\x00", GOOD),
+    ("any address", b"\x00\x05\x01\x00\x00\xff\x05\x01\x00\x00", GOOD),
+    ("a command that would be a bad link", b"\x92\x02\x01\x00\x00", GOOD),
+    ("a length that would be a bad link", b"\x92\x05\x01\x02\x11\x22\x00", GOOD),
+    ("link 2", b"\x92\xc4\x02\x01\x11\x00", BAD),
+    ("link 3", b"\x92\xc4\x03\x01\x11\x00", BAD),
+    ("link 128", b"\x92\xc4\x80\x01\x11\x00", BAD),
+    ("link 255", b"\x92\xc4\xff\x01\x11\x00", BAD),
+    ("link 2 of a record without data", b"\x92\x05\x02\x00\x00", BAD),
+    ("link 2 of a Receive Enable", b"\x92\xca\x02\x01\x41\x00", BAD),
+    ("link 2 of the second record", b"\x92\x05\x01\x00\x00\x92\x05\x02\x00\x00", BAD),
+    ("link 2 of the first of two", b"\x92\x05\x02\x00\x00\x92\x05\x01\x00\x00", BAD),
+    ("link 2 and nothing behind it", b"\x92\xc4\x02", BAD),
+    ("link 2 of a record cut in its data", b"\x92\xc4\x02\x02\x11", BAD),
+    ("link 2 of a record without its check byte", b"\x92\xc4\x02\x01\x11", BAD),
+    ("an address alone", b"\x92", BAD),
+    ("an address and a command", b"\x92\xc4", BAD),
+    ("no length", b"\x92\xc4\x01", BAD),
+    ("a length of 0 and no check byte", b"\x92\x05\x01\x00", BAD),
+    ("a length of 1 and no data", b"\x92\xc4\x01\x01", BAD),
+    ("a length of 1, a byte and no check byte", b"\x92\xc4\x01\x01\x11", BAD),
+    ("a length of 2 and one byte", b"\x92\xc4\x01\x02\x11", BAD),
+    ("a length of 255 and no data", b"\x92\xc4\x01\xff", BAD),
+    ("a second record that is an address alone", b"\x92\x05\x01\x00\x00\x92", BAD),
+    ("a second record cut in front of its link", b"\x92\x05\x01\x00\x00\x92\x05", BAD),
+    ("a second record without a check byte", b"\x92\x05\x01\x00\x00\x92\x05\x01\x00", BAD),
+    ("a zero behind the last record", b"\x92\xc4\x01\x01\x11\x00\x00", BAD),
+    ("a record of version 1", b"\xc4\x01\x01\x11", BAD),
+];
 
 /// Adds the cases of this subject.
 pub fn generate(cases: &mut Cases) {
-    examples(cases);
     cases.group("Journals: headers");
     for (name, bytes, outcome) in HEADERS {
         named(cases, name, bytes, outcome);
     }
-    cases.group("Journals: records, maximum 32");
-    for (name, bytes, outcome) in RECORDS {
-        let journal = [&Journal::new(32).bytes[..], bytes].concat();
-        named(cases, name, &journal, outcome);
+    for (version, records) in VERSIONS.into_iter().zip([RECORDS, CHECKED_RECORDS]) {
+        let title = title(version);
+        cases.group(&format!("{title}: records, maximum 32"));
+        for (name, bytes, outcome) in records {
+            let journal = [&version.header(32)[..], bytes].concat();
+            named(cases, name, &journal, outcome);
+        }
+        examples(cases, version);
+        long_records(cases, version);
+        truncated(cases, version);
+        changed(cases, version);
     }
-    long_records(cases);
-    truncated(cases);
-    changed(cases);
-    lists(cases);
-    random(cases);
+    lists(cases, Version::Unchecked, &mut named_lists());
+    lists(cases, Version::Checked, &mut named_checked_lists());
+    VERSIONS.into_iter().for_each(|version| random(cases, version));
+}
+
+fn title(version: Version) -> String {
+    format!("Journals of version {}", version as u16)
 }
 
 /// Names a journal, and reads it whole and byte by byte.
@@ -144,41 +187,46 @@ fn named(cases: &mut Cases, name: &str, journal: &[u8], outcome: &str) {
     cases.case(case(1, journal));
 }
 
+/// Adds a record with its right check byte, if it has one.
+fn record(journal: &mut JournalWriter, command: u8, link_up: bool, data: &[u8]) {
+    journal.record(rightly_coded(ADDRESS, command, link_up, data), data);
+}
+
 /// The journal whose printout is the worked example.
-fn example() -> Vec<u8> {
-    let mut journal = Journal::new(32);
+fn example(version: Version) -> Vec<u8> {
+    let mut journal = JournalWriter::new(version, 32);
     for (command, size) in [(0xc4, 20), (0x84, 32), (0x84, 10), (0x44, 5), (0x04, 3)] {
-        journal.record(command, true, &pattern(size, command));
+        record(&mut journal, command, true, &pattern(size, command));
     }
-    journal.record(0xca, true, &[0x41]);
+    record(&mut journal, 0xca, true, &[0x41]);
     journal.bytes
 }
 
-fn examples(cases: &mut Cases) {
-    let example = example();
-    cases.group("Journals: the example, whole and in pieces of every size up to its own");
+fn examples(cases: &mut Cases, version: Version) {
+    let (example, title) = (example(version), title(version));
+    cases.group(&format!("{title}: the example, whole and in pieces of every size up to its own"));
     for piece in WHOLE..=example.len() as u16 {
         cases.case(case(piece, &example));
     }
-    cases.group("Journals: the example in pieces larger than it is");
+    cases.group(&format!("{title}: the example in pieces larger than it is"));
     for piece in [example.len() as u16 + 1, 256, 4096, u16::MAX] {
         cases.case(case(piece, &example));
     }
 }
 
 /// Records of the longest data, in pieces that end around their ends.
-fn long_records(cases: &mut Cases) {
-    cases.group("Journals: records of 255 bytes, which is above any maximum");
-    for (name, command, outcome) in [
-        ("three fragments of bad length", 0xc4, GOOD),
-        ("three unknown commands", 0x05, GOOD),
-        ("three Receive Enables", 0xca, GOOD),
+fn long_records(cases: &mut Cases, version: Version) {
+    cases.group(&format!("{}: records of 255 bytes, which is above any maximum", title(version)));
+    for (name, command) in [
+        ("three fragments of bad length", 0xc4),
+        ("three unknown commands", 0x05),
+        ("three Receive Enables", 0xca),
     ] {
-        let mut journal = Journal::new(240);
+        let mut journal = JournalWriter::new(version, 240);
         for seed in [1, 2, 3] {
-            journal.record(command, true, &pattern(MOST_DATA as u16, seed));
+            record(&mut journal, command, true, &pattern(MOST_DATA as u16, seed));
         }
-        cases.name(&format!("{name}: {outcome}"));
+        cases.name(&format!("{name}: {GOOD}"));
         for piece in PIECES {
             cases.case(case(piece, &journal.bytes));
         }
@@ -187,25 +235,36 @@ fn long_records(cases: &mut Cases) {
     }
 }
 
-fn truncated(cases: &mut Cases) {
-    let example = example();
-    cases.group("Journals: the example cut at every place");
+fn truncated(cases: &mut Cases, version: Version) {
+    let (example, short) = (example(version), short(version));
+    cases.group(&format!("{}: the example cut at every place", title(version)));
     for length in 0..example.len() {
         let piece = PIECES[length % PIECES.len()];
         cases.case(case(WHOLE, &example[..length]));
         cases.case(case(piece, &example[..length]));
     }
+    cases.group(&format!("{}: a short one cut at every place", title(version)));
+    for length in 0..short.len() {
+        for piece in FEW_PIECES {
+            cases.case(case(piece, &short[..length]));
+        }
+    }
 }
 
-fn changed(cases: &mut Cases) {
-    let mut journal = Journal::new(20);
-    journal.record(0x84, true, &pattern(9, 0x90));
-    journal.record(0x44, true, &pattern(8, 0x40));
-    journal.record(0xca, false, &[0x41]);
-    journal.record(0x04, true, &[1, 2]);
-    journal.record(0x05, false, &[]);
-    let journal = journal.bytes;
-    cases.group("Journals: a short one, then with each byte changed");
+/// A journal of a few short records.
+fn short(version: Version) -> Vec<u8> {
+    let mut journal = JournalWriter::new(version, 20);
+    record(&mut journal, 0x84, true, &pattern(9, 0x90));
+    record(&mut journal, 0x44, true, &pattern(8, 0x40));
+    record(&mut journal, 0xca, false, &[0x41]);
+    record(&mut journal, 0x04, true, &[1, 2]);
+    record(&mut journal, 0x05, false, &[]);
+    journal.bytes
+}
+
+fn changed(cases: &mut Cases, version: Version) {
+    let journal = short(version);
+    cases.group(&format!("{}: a short one, then with each byte changed", title(version)));
     named(cases, "as it is", &journal, GOOD);
     for (place, byte) in journal.iter().enumerate() {
         cases.name(&format!("byte {place}, counted from 0, 0, 1, 255, and with bit 0 or 7 turned"));
@@ -218,81 +277,101 @@ fn changed(cases: &mut Cases) {
 }
 
 /// The lists that show the rules of transactions, as journals.
-fn lists(cases: &mut Cases) {
-    cases.group("Journals: every rule of transactions by an example");
-    for (name, maximum, list) in named_lists() {
-        if list.iter().any(|transaction| transaction.data.len() > MOST_DATA) {
+fn lists(
+    cases: &mut Cases,
+    version: Version,
+    lists: &mut dyn Iterator<Item = (&'static str, u32, Vec<Whole>)>,
+) {
+    cases.group(&format!("{}: every rule of transactions by an example", title(version)));
+    for (name, maximum, list) in lists {
+        if list.iter().any(|(_, data)| data.len() > MOST_DATA) {
             continue;
         }
-        let mut journal = Journal::new(maximum as u8);
-        for transaction in list {
-            journal.record(transaction.command, transaction.link_up, &transaction.data);
+        let mut journal = JournalWriter::new(version, maximum as u8);
+        for (transaction, data) in list {
+            journal.record(transaction, &data);
         }
         cases.name(name);
         cases.case(case(WHOLE, &journal.bytes));
     }
 }
 
-fn random(cases: &mut Cases) {
-    let mut random = Random::new(SEED);
+fn random(cases: &mut Cases, version: Version) {
+    let (seed, short, calm_of_long, of_any) = match version {
+        Version::Unchecked => (SEED, 15, &CALM[..], 60),
+        Version::Checked => (SEED ^ 1, 12, &CALM[1..2], 30),
+    };
+    let mut random = Random::new(seed);
     for maximum in MAXIMUMS {
-        cases.group(&format!("Journals: random ones for maximum {maximum}"));
-        for number in 0..15 {
+        cases.group(&format!("{}: random ones for maximum {maximum}", title(version)));
+        for number in 0..short {
             let calm = CALM[number % CALM.len()];
-            let journal = plausible(random.u64(), maximum, calm, MOST_BYTES_OF_SHORT);
+            let journal = plausible(version, random.u64(), maximum, calm, MOST_BYTES_OF_SHORT);
             cases.case(case(random.pick(&PIECES), &journal));
         }
-        for calm in CALM {
-            let journal = plausible(random.u64(), maximum, calm, MOST_BYTES);
+        for calm in calm_of_long {
+            let journal = plausible(version, random.u64(), maximum, *calm, MOST_BYTES);
             cases.case(case(random.pick(&PIECES), &journal));
         }
     }
-    cases.group("Journals: random records of any command and any length");
-    for number in 0..60 {
+    of_any_records(cases, version, &mut random, of_any);
+    with_a_byte_changed(cases, version, &mut random);
+}
+
+fn of_any_records(cases: &mut Cases, version: Version, random: &mut Random, count: usize) {
+    cases.group(&format!("{}: random records of any command and any length", title(version)));
+    for number in 0..count {
         let most = if number % 6 == 0 { MOST_BYTES } else { MOST_BYTES_OF_SHORT };
-        let journal = any(&mut random, most);
+        let journal = any(version, random, most);
         cases.case(case(random.pick(&PIECES), &journal));
     }
-    cases.group("Journals: random ones for maximum 32 with one byte changed");
+}
+
+fn with_a_byte_changed(cases: &mut Cases, version: Version, random: &mut Random) {
+    let title = title(version);
+    cases.group(&format!("{title}: random ones for maximum 32 with one byte changed"));
     for _ in 0..120 {
-        let mut journal = plausible(random.u64(), 32, 10, MOST_BYTES_OF_SHORT);
+        let mut journal = plausible(version, random.u64(), 32, 10, MOST_BYTES_OF_SHORT);
         let place = random.below(journal.len() as u64) as usize;
         journal[place] ^= 1 << random.below(8);
         cases.case(case(random.pick(&PIECES), &journal));
     }
 }
 
-/// A journal of transactions in a plausible order, most of the time.
-fn plausible(seed: u64, maximum: u8, calm: u64, most: usize) -> Vec<u8> {
+/// A journal of transactions in a plausible order, most of the time, a few of
+/// them with a wrong check byte.
+fn plausible(version: Version, seed: u64, maximum: u8, calm: u64, most: usize) -> Vec<u8> {
     let mut controller = Controller::new(seed, u64::from(maximum), calm);
-    grown(maximum, most, || {
+    grown(version, maximum, most, || {
         let drawn = controller.transaction();
-        let mut data = match drawn.data {
-            Data::Given(data) => data,
-            Data::Pattern { size, seed } => pattern(size, seed),
-        };
+        let mut data = drawn.bytes();
         data.truncate(MOST_DATA);
-        (drawn.command, drawn.link_up, data)
+        let transaction = match version {
+            Version::Unchecked => rightly_coded(ADDRESS, drawn.command, drawn.link_up, &data),
+            Version::Checked => controller.coded(&drawn, &data),
+        };
+        (transaction, data)
     })
 }
 
 /// A journal of records that were not drawn as transactions.
-fn any(random: &mut Random, most: usize) -> Vec<u8> {
+fn any(version: Version, random: &mut Random, most: usize) -> Vec<u8> {
     let maximum = 1 + random.below(240) as u8;
     let longest = random.pick(&[4, 30, 256]);
-    grown(maximum, most, || {
+    grown(version, maximum, most, || {
         let length = random.below(longest) as usize;
-        (random.byte(), random.one_in(2), random.bytes(length))
+        let (command, link_up, data) = (random.byte(), random.one_in(2), random.bytes(length));
+        (rightly_coded(ADDRESS, command, link_up, &data), data)
     })
 }
 
 /// A journal with as many records as there is room for.
-fn grown(maximum: u8, most: usize, mut next: impl FnMut() -> (u8, bool, Vec<u8>)) -> Vec<u8> {
-    let mut journal = Journal::new(maximum);
+fn grown(version: Version, maximum: u8, most: usize, mut next: impl FnMut() -> Whole) -> Vec<u8> {
+    let mut journal = JournalWriter::new(version, maximum);
     loop {
         let whole = journal.bytes.len();
-        let (command, link_up, data) = next();
-        journal.record(command, link_up, &data);
+        let (transaction, data) = next();
+        journal.record(transaction, &data);
         if journal.bytes.len() > most {
             journal.bytes.truncate(whole);
             return journal.bytes;

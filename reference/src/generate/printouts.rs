@@ -1,12 +1,10 @@
 //! Cases of accounts that are printed.
 
-use super::account::{self, busy, random_sound, set_open, summed};
+use super::account::{self, busy, clear_what_is_not_counted, random_sound, set_open, summed};
 use super::{state, Cases};
 use crate::random::Random;
 use crate::text::Line;
-use reference::account::{
-    is_sound, Account, Fate, BYTES, HIGHEST_TOTAL, LONGEST_FRAGMENT, PACKETS, ROWS,
-};
+use reference::account::{is_sound, Account, HIGHEST_TOTAL, LONGEST_FRAGMENT, ROWS};
 use reference::printout::{print, ENOUGH_ROOM};
 
 const SEED: u64 = 0x0097_1277;
@@ -57,14 +55,8 @@ fn largest() -> Vec<(String, Account)> {
     };
     for fate in ROWS {
         add(format!("{fate:?}").to_lowercase(), &|account| {
-            let row = &mut account.grid[fate as usize];
-            *row = [HIGHEST_TOTAL, HIGHEST_TOTAL, 240 * HIGHEST_TOTAL];
-            if matches!(fate, Fate::Aborted | Fate::BadLength) {
-                row[PACKETS] = 0;
-            }
-            if fate == Fate::BadLength {
-                row[BYTES] = 0;
-            }
+            account.grid[fate as usize] = [HIGHEST_TOTAL, HIGHEST_TOTAL, 240 * HIGHEST_TOTAL];
+            clear_what_is_not_counted(account);
         });
     }
     add("open".to_string(), &|account| {
@@ -73,10 +65,9 @@ fn largest() -> Vec<(String, Account)> {
     add("taken".to_string(), &|account| account.taken = HIGHEST_TOTAL);
     add("refused".to_string(), &|account| account.refused = HIGHEST_TOTAL);
     add("in all lines alike".to_string(), &|account| {
-        let share = HIGHEST_TOTAL / 12;
+        let share = HIGHEST_TOTAL / (ROWS.len() as u64 + 3);
         account.grid = [[share, share, 240 * share]; ROWS.len()];
-        account.grid[Fate::Aborted as usize][PACKETS] = 0;
-        account.grid[Fate::BadLength as usize] = [0, share, 0];
+        clear_what_is_not_counted(account);
         set_open(account, share, 240 * share);
         account.taken = share;
         account.refused = share;
@@ -125,18 +116,17 @@ fn of_any_size(random: &mut Random) -> Account {
         let digits = 1 + random.below(8) as u32;
         random.below(10_u64.pow(digits))
     };
-    for fate in &ROWS[..7] {
+    for fate in ROWS {
         let mut columns = [number(), number(), number()];
         columns.sort();
         let [packets, bytes, fragments] = columns;
-        account.grid[*fate as usize] = [packets, fragments, bytes];
+        account.grid[fate as usize] = [packets, fragments, bytes];
     }
-    account.grid[Fate::Aborted as usize] = [0, number(), 0];
-    account.grid[Fate::BadLength as usize] = [0, number(), 0];
     account.open_fragments = number();
     account.open_bytes = account.open_fragments;
     account.taken = number();
     account.refused = number();
+    clear_what_is_not_counted(&mut account);
     summed(account)
 }
 

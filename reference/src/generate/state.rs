@@ -4,7 +4,8 @@ use super::account::{self, change_by_one, random_sound as random_account, set_op
 use super::Cases;
 use crate::random::Random;
 use crate::text::Line;
-use reference::state::{self, State, HIGHEST_MAXIMUM, NUMBERS};
+use reference::account::Account;
+use reference::state::{self, State, CHECK_OFF, CHECK_ON, HIGHEST_MAXIMUM, NUMBERS};
 
 const SEED: u64 = 0x0005_7a7e;
 
@@ -73,8 +74,10 @@ pub type Named = (String, State);
 pub fn generate(cases: &mut Cases) {
     cases.group("State: fresh");
     for (maximum, answer) in MAXIMUMS {
-        cases.name(&format!("maximum {maximum}: {answer}"));
-        cases.case(Line::case("fresh-state").u32(maximum));
+        for (check, shown) in [(false, "off"), (true, "on")] {
+            cases.name(&format!("maximum {maximum}, check {shown}: {answer}"));
+            cases.case(Line::case("fresh-state").u32(maximum).bool(check));
+        }
     }
     let case = |(name, state): Named| (name, sound_state(&state));
     let at_edges = sound().into_iter().map(case);
@@ -84,20 +87,45 @@ pub fn generate(cases: &mut Cases) {
     random(cases);
 }
 
+/// A fresh state with the check off.
+pub fn fresh(maximum: u32) -> State {
+    state::fresh(maximum, false).1
+}
+
+/// A fresh state with the check on.
+pub fn fresh_checked(maximum: u32) -> State {
+    state::fresh(maximum, true).1
+}
+
+/// The state around an account, with the check off.
+pub fn unchecked(account: Account, maximum: u64) -> State {
+    State { account, maximum, check: CHECK_OFF }
+}
+
 /// A sound state in which every number that may differ from zero does, and no
 /// two are alike.
 pub fn busy() -> State {
-    State { account: account::busy(), maximum: 100 }
+    unchecked(account::busy(), 100)
 }
 
 /// States at the edges of what is sound.
 pub fn sound() -> Vec<Named> {
-    let fresh = [1, 32, 239, 240]
-        .map(|maximum| (format!("fresh for maximum {maximum}"), state::fresh(maximum).1));
+    let fresh =
+        [1, 32, 239, 240].map(|maximum| (format!("fresh for maximum {maximum}"), fresh(maximum)));
     let mut all = Vec::from(fresh);
     all.extend(around(account::sound(), HIGHEST_MAXIMUM));
     all.extend(ALLOWED.map(opened));
+    for maximum in [1, 32, 240] {
+        let name = format!("fresh for maximum {maximum}, check on");
+        all.push((name, fresh_checked(maximum)));
+    }
+    all.push(with_check(CHECK_ON));
     all
+}
+
+/// The busy state with another check.
+fn with_check(check: u8) -> Named {
+    (format!("every number in use, check {check}"), State { check, ..busy() })
 }
 
 /// Sound states whose account is full.
@@ -109,9 +137,10 @@ pub fn full() -> Vec<Named> {
 pub fn unsound() -> Vec<Named> {
     let mut all: Vec<Named> = around(account::unsound(), HIGHEST_MAXIMUM).collect();
     all.extend(NOT_ALLOWED.map(opened));
+    all.extend([2, 3, 128, 254, 255].map(with_check));
     all.push((
         "all numbers of the state the highest".to_string(),
-        State::of_numbers([u64::MAX; NUMBERS]),
+        State::of_numbers([u64::MAX; NUMBERS], u8::MAX),
     ));
     all.push(("all numbers of the state zero".to_string(), State::default()));
     all
@@ -119,14 +148,14 @@ pub fn unsound() -> Vec<Named> {
 
 /// The states around these accounts.
 fn around(accounts: Vec<account::Named>, maximum: u64) -> impl Iterator<Item = Named> {
-    accounts.into_iter().map(move |(name, account)| (name, State { account, maximum }))
+    accounts.into_iter().map(move |(name, account)| (name, unchecked(account, maximum)))
 }
 
 /// The busy state with another maximum and another open packet.
 pub fn with_open(maximum: u64, fragments: u64, bytes: u64) -> State {
     let mut account = account::busy();
     set_open(&mut account, fragments, bytes);
-    State { account: summed(account), maximum }
+    unchecked(summed(account), maximum)
 }
 
 fn opened((name, maximum, fragments, bytes): (&str, u64, u64, u64)) -> Named {
@@ -143,22 +172,22 @@ fn random(cases: &mut Cases) {
     for _ in 0..40 {
         let mut numbers = random_sound(&mut random).numbers();
         change_by_one(&mut random, &mut numbers);
-        cases.case(sound_state(&State::of_numbers(numbers)));
+        cases.case(sound_state(&State::of_numbers(numbers, CHECK_OFF)));
     }
     cases.group("State: any maximum around sound accounts");
     for _ in 0..80 {
         let account = random_account(&mut random, HIGHEST_MAXIMUM);
         let maximum = random.between(0, HIGHEST_MAXIMUM + 1);
-        cases.case(sound_state(&State { account, maximum }));
+        cases.case(sound_state(&unchecked(account, maximum)));
     }
 }
 
 /// A sound state whose numbers lie at their ends as often as between.
 pub fn random_sound(random: &mut Random) -> State {
     let maximum = 1 + random.below(HIGHEST_MAXIMUM);
-    State { account: random_account(random, maximum), maximum }
+    unchecked(random_account(random, maximum), maximum)
 }
 
 fn sound_state(state: &State) -> Line {
-    Line::case("sound-state").numbers(&state.numbers())
+    Line::case("sound-state").state(state)
 }

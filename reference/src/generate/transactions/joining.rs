@@ -3,7 +3,7 @@
 
 use super::{answers, down, send_pattern, sends, show, start, up, Send};
 use crate::generate::account::{random_sound as random_account, set_open, summed};
-use crate::generate::state::with_open;
+use crate::generate::state::{unchecked, with_open};
 use crate::generate::Cases;
 use crate::random::Random;
 use reference::account::{Account, HIGHEST_TOTAL};
@@ -244,7 +244,7 @@ fn longest(cases: &mut Cases) {
     cases.group("Transactions: an open packet of 4294967294 fragments of 240 bytes");
     let mut account = Account::default();
     set_open(&mut account, HIGHEST_TOTAL - 1, HIGHEST_MAXIMUM * (HIGHEST_TOTAL - 1));
-    let state = State { account: summed(account), maximum: HIGHEST_MAXIMUM };
+    let state = unchecked(summed(account), HIGHEST_MAXIMUM);
     let full = up(0x44, 240, 14);
     for (name, send) in [
         ("a Middle writes nothing", up(0x04, 240, 0)),
@@ -311,5 +311,5 @@ fn random_open(random: &mut Random, maximum: u64, size: u64) -> State {
     let fragments = random.between(fewest(bytes, maximum), bytes.min(MOST_FRAGMENTS));
     let mut account = random_account(random, maximum);
     set_open(&mut account, fragments, bytes);
-    State { account: summed(account), maximum }
+    unchecked(summed(account), maximum)
 }

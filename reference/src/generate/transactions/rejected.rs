@@ -1,12 +1,12 @@
 //! Transactions that are not counted, on both sides of each edge.
 
-use super::{answers, down, enable, packet, sends, show, start, up, Send, STORE_BYTES};
+use super::{down, enable, list, packet, sends, start, up, Send, STORE_BYTES};
 use crate::generate::account::{set_open, summed};
-use crate::generate::state::{busy, full, sound, unsound};
+use crate::generate::state::{busy, fresh, full, sound, unchecked, unsound};
 use crate::generate::Cases;
 use reference::account::{Account, Fate, BYTES, FRAGMENTS, HIGHEST_TOTAL};
 use reference::settings::{FRESH_SETTINGS, SETTINGS_BYTES};
-use reference::state::{fresh, State, HIGHEST_MAXIMUM};
+use reference::state::{State, CHECK_ON, HIGHEST_MAXIMUM};
 
 /// Fills settings that are longer than need be.
 const FILL: u8 = 0xee;
@@ -22,7 +22,7 @@ pub fn generate(cases: &mut Cases) {
 }
 
 /// One transaction of each kind. Each would change something.
-fn one_of_each(answers: [u8; 7]) -> [Send; 7] {
+pub fn one_of_each(answers: [u8; 7]) -> [Send; 7] {
     [
         up(0x84, 20, answers[0]),
         up(0x04, 30, answers[1]),
@@ -37,16 +37,9 @@ fn one_of_each(answers: [u8; 7]) -> [Send; 7] {
 /// The answers of one transaction of each kind where all are counted.
 const COUNTED: [u8; 7] = [0, 0, 6, 1, 3, 11, 7];
 
-fn list(cases: &mut Cases, name: &str, state: &State, store: u16, settings: &[u8], list: &[Send]) {
-    cases.name(&format!("{name}: {}", answers(list)));
-    cases.case(start(state, store, settings));
-    sends(cases, list);
-    cases.case(show());
-}
-
 fn room(cases: &mut Cases) {
     cases.group("Transactions: 12, store or settings too short");
-    let state = fresh(240).1;
+    let state = fresh(240);
     for store in [0, 1, 60, 240, 1535, 1536, 1537, 2047, 2048] {
         let answers = if store < STORE_BYTES { [12; 7] } else { COUNTED };
         let name = format!("store of {store} bytes");
@@ -77,14 +70,17 @@ fn unsound_states(cases: &mut Cases) {
         }
         let fragment = if state.maximum < 17 { 5 } else { 1 };
         let size = state.maximum.min(20) as u16;
-        let whole = [up(0xc4, size, fragment), enable(0x41, 1, 11)];
+        let mut whole = [up(0xc4, size, fragment), enable(0x41, 1, 11)];
+        if state.check == CHECK_ON {
+            whole = whole.map(Send::right);
+        }
         list(cases, &name, &state, STORE_BYTES, &FRESH_SETTINGS, &whole);
     }
 }
 
 fn unsound_settings(cases: &mut Cases) {
     cases.group("Transactions: 13, settings not sound");
-    let state = fresh(240).1;
+    let state = fresh(240);
     for (name, control, kept, answers) in [
         ("control 0x00", 0x00, 0, [13; 7]),
         ("bit 6 of the control zero", 0x01, 3, [13; 7]),
@@ -113,8 +109,7 @@ fn full_accounts(cases: &mut Cases) {
     for (name, state) in full() {
         list(cases, &name, &state, STORE_BYTES, &FRESH_SETTINGS, &one_of_each([14; 7]));
     }
-    let nearly =
-        Account { refused: HIGHEST_TOTAL - 1, total: HIGHEST_TOTAL - 1, ..Account::default() };
+    let nearly = nearly_full();
     for (name, send) in [
         ("a whole packet", up(0xc4, 20, 1)),
         ("a First", up(0x84, 20, 0)),
@@ -154,9 +149,14 @@ fn full_accounts(cases: &mut Cases) {
     list(cases, name, &around(summed(long)), STORE_BYTES, &FRESH_SETTINGS, &rest);
 }
 
+/// An account that one more transaction fills, all of them refused.
+pub fn nearly_full() -> Account {
+    Account { refused: HIGHEST_TOTAL - 1, total: HIGHEST_TOTAL - 1, ..Account::default() }
+}
+
 /// The state around an account, for the highest maximum.
-fn around(account: Account) -> State {
-    State { account, maximum: HIGHEST_MAXIMUM }
+pub fn around(account: Account) -> State {
+    unchecked(account, HIGHEST_MAXIMUM)
 }
 
 fn order(cases: &mut Cases) {

@@ -4,9 +4,9 @@ use super::{
     answers, enable, list_from_fresh, packet, send_pattern, sends, show, start, up, Send,
     STORE_BYTES,
 };
+use crate::generate::state::fresh;
 use crate::generate::Cases;
 use reference::settings::FRESH_SETTINGS;
-use reference::state::fresh;
 
 const FRAGMENTS: [u8; 4] = [0x84, 0x04, 0x44, 0xc4];
 const MAXIMUMS: [u32; 8] = [1, 2, 3, 17, 32, 64, 239, 240];
@@ -67,7 +67,7 @@ fn all_commands(cases: &mut Cases) {
         ("after a whole packet of 20 bytes, none open", 0xc4, 5),
     ] {
         cases.group(&format!("Transactions: each of the 256 command bytes {title}"));
-        cases.case(start(&fresh(240).1, STORE_BYTES, &FRESH_SETTINGS));
+        cases.case(start(&fresh(240), STORE_BYTES, &FRESH_SETTINGS));
         for command in 0..=255 {
             cases.case(send_pattern(before, true, 20, command));
             cases.case(send_pattern(command, true, size, 0x41));
@@ -77,7 +77,7 @@ fn all_commands(cases: &mut Cases) {
     cases.group("Transactions: an open packet, the command byte, then its Last of 20 bytes");
     cases.name("sent after a command that ends nothing, else aborted");
     for (low, high) in [(0x00, 0x3f), (0x40, 0x7f), (0x80, 0xbf), (0xc0, 0xff)] {
-        cases.case(start(&fresh(32).1, STORE_BYTES, &FRESH_SETTINGS));
+        cases.case(start(&fresh(32), STORE_BYTES, &FRESH_SETTINGS));
         for command in low..=high {
             cases.case(send_pattern(0x84, true, 20, command));
             cases.case(send_pattern(command, true, 1, 0x41));
@@ -112,7 +112,7 @@ fn receive_enables(cases: &mut Cases) {
     }
     cases.group("Transactions: Receive Enable with every control byte, short and long form");
     for size in [1, 14] {
-        cases.case(start(&fresh(240).1, STORE_BYTES, &FRESH_SETTINGS));
+        cases.case(start(&fresh(240), STORE_BYTES, &FRESH_SETTINGS));
         for control in 0..=255 {
             cases.case(send_pattern(0xca, true, size, control));
         }
@@ -138,7 +138,7 @@ fn totals(cases: &mut Cases) {
                     "{total} bytes in fragments of {maximum}, link {link} at the Last: {}",
                     answers(&list)
                 ));
-                cases.case(start(&fresh(u32::from(maximum)).1, STORE_BYTES, &FRESH_SETTINGS));
+                cases.case(start(&fresh(u32::from(maximum)), STORE_BYTES, &FRESH_SETTINGS));
                 sends(cases, &list);
                 cases.case(packet(u64::from(total)));
             }
@@ -150,7 +150,7 @@ fn totals(cases: &mut Cases) {
 fn cuts(cases: &mut Cases) {
     for total in [17, 59, 60, 61, 1536, 1537] {
         cases.group(&format!("Transactions: packets of {total} bytes cut in many ways"));
-        cases.case(start(&fresh(240).1, STORE_BYTES, &FRESH_SETTINGS));
+        cases.case(start(&fresh(240), STORE_BYTES, &FRESH_SETTINGS));
         for size in [1, 2, 7, 16, 17, 20, 30, 32, 59, 60, 61, 96, 120, 128, 192, 239, 240] {
             if total > 100 * size {
                 continue;
@@ -202,7 +202,7 @@ fn triples(cases: &mut Cases) {
     ];
     cases.group("Transactions: each triple of kinds, ended by an unknown command that flushes");
     for (first, (command, size)) in KINDS.into_iter().enumerate() {
-        cases.case(start(&fresh(32).1, STORE_BYTES, &FRESH_SETTINGS));
+        cases.case(start(&fresh(32), STORE_BYTES, &FRESH_SETTINGS));
         for (second, (second_command, second_size)) in KINDS.into_iter().enumerate() {
             for (third, (third_command, third_size)) in KINDS.into_iter().enumerate() {
                 let seed = (0x41 + 16 * (9 * first + second) + third) as u8;
