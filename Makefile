@@ -4,7 +4,7 @@
 # make uninstall
 PREFIX = /usr/local
 DESTDIR =
-VERSION = 0.2.0
+VERSION = 0.3.0
 
 library = crates/tco/out/libtco.a
 program = crates/account/out/account

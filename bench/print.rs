@@ -37,19 +37,20 @@ fn main() -> ExitCode {
             [60, 240, 57_600],
             [0, 9, 1_234],
             [0, 101, 0],
+            [0, 11, 0],
         ],
         open_fragments: 2,
         open_bytes: 300,
         taken: 4_321,
         refused: 56,
-        total: 994_788,
+        total: 994_799,
     };
     let above = Account { total: HIGHEST_TOTAL + 1, ..zeros };
     let mut bad_length = zeros;
     bad_length.grid[Fate::BadLength as usize][BYTES] = 1;
     let rows = [
-        ("all zeros", Input::new(zeros), 189),
-        ("small and large numbers", Input::new(mixed), 250),
+        ("all zeros", Input::new(zeros), 204),
+        ("small and large numbers", Input::new(mixed), 266),
         ("total above the limit", Input::new(above), 0),
         ("badlength with a byte", Input::new(bad_length), 0),
     ];

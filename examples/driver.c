@@ -8,11 +8,17 @@
 
 #include "tco.h"
 
+/* Whether the controller sends a packet error code behind each transaction. If false, address and
+   code are not read. */
+static const bool check = true;
+
+/* The address byte of a write to this part. */
+#define ADDRESS 0x92
+
 struct transaction {
-    uint8_t command;
+    tco_transaction attributes;
     const uint8_t *bytes;
     size_t length;
-    bool link_up;
 };
 
 /* The next transaction from the bus; false when there is none. */
@@ -20,9 +26,12 @@ static bool bus_next(struct transaction *next)
 {
     static const uint8_t bytes[32] = {0x41};
     static const struct transaction all[] = {
-        {TCO_COMMAND_WHOLE, bytes, 20, true}, {TCO_COMMAND_FIRST, bytes, 32, true},
-        {TCO_COMMAND_FIRST, bytes, 10, true}, {TCO_COMMAND_LAST, bytes, 5, true},
-        {TCO_COMMAND_MIDDLE, bytes, 3, true}, {TCO_COMMAND_RECEIVE_ENABLE, bytes, 1, true},
+        {{ADDRESS, TCO_COMMAND_WHOLE, 0xdb, true}, bytes, 20},
+        {{ADDRESS, TCO_COMMAND_FIRST, 0xf0, true}, bytes, 32},
+        {{ADDRESS, TCO_COMMAND_FIRST, 0x70, true}, bytes, 10},
+        {{ADDRESS, TCO_COMMAND_LAST, 0xb9, true}, bytes, 5},
+        {{ADDRESS, TCO_COMMAND_MIDDLE, 0x78, true}, bytes, 3},
+        {{ADDRESS, TCO_COMMAND_RECEIVE_ENABLE, 0xa5, true}, bytes, 1},
     };
     static size_t done = 0;
     if (done == sizeof all / sizeof *all)
@@ -58,15 +67,15 @@ static void print_account(void)
 
 static bool start(void)
 {
-    tco_made made = tco_fresh_state(32);
+    tco_made made = tco_fresh_state(32, check);
     state = made.state;
     return made.answer == TCO_DONE && tco_fresh_settings(settings, sizeof settings) == TCO_DONE;
 }
 
 static tco_reply transact(struct transaction next)
 {
-    return tco_transact(&state, store, sizeof store, settings, sizeof settings, next.command,
-                        next.bytes, next.length, next.link_up);
+    return tco_transact(&state, store, sizeof store, settings, sizeof settings, next.attributes,
+                        next.bytes, next.length);
 }
 
 int main(void)

@@ -53,7 +53,8 @@ enum {
     TCO_NOT_SOUND = 13,     /* state or settings not sound; nothing changed */
     TCO_FULL = 14,          /* account full: its total is TCO_LIMIT; nothing changed */
     TCO_BAD_STATUS = 15,    /* status field or block not allowed; `field` has the first bad one */
-    TCO_BAD_MAXIMUM = 16    /* fragment maximum not 1 to TCO_MAXIMUM */
+    TCO_BAD_MAXIMUM = 16,   /* fragment maximum not 1 to TCO_MAXIMUM */
+    TCO_BAD_CHECK = 17      /* packet error code wrong, or more than 255 data bytes and so no code */
 };
 
 /* Rows of the grid, each of TCO_COLUMNS numbers: packets, fragments, bytes. */
@@ -67,7 +68,8 @@ enum {
     TCO_ROW_LINK_DOWN = 6,
     TCO_ROW_ABORTED = 7,
     TCO_ROW_BAD_LENGTH = 8,
-    TCO_ROWS = 9,
+    TCO_ROW_BAD_CHECK = 9,
+    TCO_ROWS = 10,
     TCO_COLUMNS = 3
 };
 
@@ -77,7 +79,7 @@ enum {
     TCO_SETTINGS_SIZE = 15, /* the least bytes of settings */
     TCO_FLASH_SIZE = 10,    /* the least bytes of a Flash block: host MAC, then IPv4 */
     TCO_STATUS_SIZE = 8,    /* the bytes of a status block */
-    TCO_PRINTOUT_SIZE = 846 /* no printout has more bytes */
+    TCO_PRINTOUT_SIZE = 920 /* no printout has more bytes */
 };
 
 /* Fields of status data, in the order in which they are judged: with TCO_BAD_STATUS comes the first
@@ -106,13 +108,22 @@ typedef struct {
     uint64_t open_fragments, open_bytes;   /* of the packet that is open */
     uint64_t taken;                        /* commands answered 11 */
     uint64_t refused;                      /* commands answered 7 to 10 */
-    uint64_t total;                        /* transactions counted: those answered 0 to 11 */
+    uint64_t total;                        /* transactions counted: those answered 0 to 11 or 17 */
 } tco_account;
 
 typedef struct {
     tco_account account;
     uint64_t maximum; /* the most data bytes of a fragment */
+    uint8_t check;    /* 1: packet error codes are checked; 0: not; any other is not sound */
 } tco_state;
+
+/* A transaction but for its data. With the check off, address and code are not read. */
+typedef struct {
+    uint8_t address; /* the byte before the command: the address and the bit that says write */
+    uint8_t command;
+    uint8_t code; /* the packet error code, the byte behind the data */
+    bool link_up; /* whether the link is up now */
+} tco_transaction;
 
 typedef struct {
     uint32_t answer;
@@ -123,6 +134,11 @@ typedef struct {
     uint32_t answer;
     tco_state state;
 } tco_made;
+
+typedef struct {
+    uint32_t answer;
+    uint8_t code; /* 0 where the answer is TCO_BAD_CHECK */
+} tco_code;
 
 typedef struct {
     uint32_t source; /* TCO_SETTINGS or TCO_FLASH; TCO_NOWHERE where all is 0 */
@@ -156,28 +172,38 @@ typedef struct {
 } tco_link;
 
 /* A fresh state for fragments of at most `maximum` data bytes, 1 to 240, answered 0; else the one for
-   240, answered 16. The state is kept as it is and changed by tco_transact alone. */
-tco_made tco_fresh_state(uint32_t maximum);
+   240, answered 16. Whether packet error codes are checked stands in it from then on. The state is
+   kept as it is and changed by tco_transact alone. */
+tco_made tco_fresh_state(uint32_t maximum, bool check);
 
 /* Writes fresh settings into the first 15 bytes and answers 0; answers 12 and writes nothing where
    there are fewer. The settings are kept as they are and changed by tco_transact alone. */
 uint32_t tco_fresh_settings(uint8_t *settings, size_t settings_len);
 
-/* Does one transaction: a command byte, its data and whether the link is up now. A transaction
-   without data still needs a pointer that is not null. State, store and settings are changed where
-   they lie, and go into the next call as they are; answered 12, 13 or 14, nothing changed.
+/* Does one transaction: its bytes on the bus but for the count, which is the length of the data, and
+   whether the link is up now. A transaction without data still needs a pointer that is not null.
+   State, store and settings are changed where they lie, and go into the next call as they are;
+   answered 12, 13 or 14, nothing changed.
 
    Answered 1, the first `sent` bytes of the store are to be sent before the next call: the packet,
    filled up with zeros to 60 bytes where it has fewer. With its four check bytes, which are not among
    them, the shortest one has 64, the least that 802.3 allows.
+
+   Answered 17, which needs the check to be on, the command was not read: an open packet is broken,
+   the transaction counts as one fragment in the row badcheck, and store and settings are as before.
 
    Answered 14, the account is full and stays so: print it and keep it as evidence, start anew with a
    fresh state and fresh settings, and do the transaction again. Nothing is open then, and the
    controller has to enable receiving again; settings that are kept across a fresh state are not those
    of the new transactions. */
 tco_reply tco_transact(tco_state *state, uint8_t *store, size_t store_len, uint8_t *settings,
-                       size_t settings_len, uint8_t command, const uint8_t *bytes, size_t bytes_len,
-                       bool link_up);
+                       size_t settings_len, tco_transaction transaction, const uint8_t *bytes,
+                       size_t bytes_len);
+
+/* The packet error code of a transaction, answered 0: the CRC-8 with the polynomial x^8 + x^2 + x + 1,
+   from 0 on, of address, command, count and data. Answered 17 where there are more than 255 bytes,
+   which have none. */
+tco_code tco_check_code(uint8_t address, uint8_t command, const uint8_t *bytes, size_t bytes_len);
 
 /* How many bytes to show, from the store's first on, where `length` are asked for: that many, or 0
    where the store has fewer or they are more than 1536. */

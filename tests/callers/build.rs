@@ -11,10 +11,9 @@ fn main() {
         Some(named) => PathBuf::from(named),
         None => top.join("crates/tco/out/libtco.a"),
     };
-    link("rust-caller", &archive);
-    link("bench-link", &archive);
-    link("bench-print", &archive);
-    link("bench-status", &archive);
+    for program in ["rust-caller", "bench-code", "bench-link", "bench-print", "bench-status"] {
+        link(program, &archive);
+    }
     if env::var_os("CARGO_FEATURE_BEFORE").is_none() {
         link("bench-calls", &archive);
     } else {

@@ -3,7 +3,10 @@
 #include <string.h>
 
 enum { PACKETS = 0, FRAGMENTS = 1, BYTES = 2 };
-enum { NUMBERS = sizeof(tco_state) / sizeof(uint64_t) };
+/* All of a state before its check are numbers. */
+enum { NUMBERS = offsetof(tco_state, check) / sizeof(uint64_t) };
+/* More data bytes have no code. */
+enum { CODED_MOST = UINT8_MAX };
 
 static void make_total_right(tco_account *account)
 {
@@ -14,7 +17,7 @@ static void make_total_right(tco_account *account)
 
 tco_state draw_state(struct source *source)
 {
-    tco_state state = {.maximum = TCO_MAXIMUM};
+    tco_state state = {.maximum = TCO_MAXIMUM, .check = one_in(source, 2)};
     tco_account *account = &state.account;
     if (one_in(source, 2))
         state.maximum = between(source, 1, TCO_MAXIMUM);
@@ -27,7 +30,7 @@ tco_state draw_state(struct source *source)
         numbers[FRAGMENTS] = fragments;
         numbers[PACKETS] = row >= TCO_ROW_ABORTED ? 0 : between(source, 0, fragments);
         numbers[BYTES] =
-            row == TCO_ROW_BAD_LENGTH ? 0 : between(source, 0, TCO_MAXIMUM * fragments);
+            row >= TCO_ROW_BAD_LENGTH ? 0 : between(source, 0, TCO_MAXIMUM * fragments);
     }
     account->open_fragments = PICK(source, 0, 0, 1, 2, 6, 7);
     account->open_bytes =
@@ -69,12 +72,16 @@ void alter_state(struct source *source, tco_state *state)
         for (int i = 0; i < NUMBERS; i++)
             numbers[i] = any(source);
         memcpy(state, numbers, sizeof numbers);
+        state->check = (uint8_t)below(source, 256);
         break;
     case 1:
         alter_number(source, &state->maximum);
         return;
     case 2:
         open_past_maximum(source, state);
+        return;
+    case 3:
+        state->check = (uint8_t)PICK(source, 0, 1, 2, 3, 0x80, 0x81, UINT8_MAX);
         return;
     default:
         memcpy(numbers, state, sizeof numbers);
@@ -135,8 +142,8 @@ static size_t draw_fragment_length(struct source *source, const tco_state *state
     uint64_t to_edge;
     switch (below(source, 8)) {
     case 0:
-        return PICK(source, 0, 1, 14, maximum - 1, maximum, maximum + 1, 240, 241, 255, 256, 257,
-                    DATA_MOST);
+        return PICK(source, 0, 1, 14, maximum - 1, maximum, maximum + 1, 240, 241,
+                    draw_coded_length(source));
     case 1:
         to_edge = PICK(source, 16, 17, 59, 60, 61, 1535, 1536, 1537) - state->account.open_bytes;
         return to_edge <= maximum ? to_edge : maximum;
@@ -147,18 +154,54 @@ static size_t draw_fragment_length(struct source *source, const tco_state *state
     }
 }
 
+size_t draw_coded_length(struct source *source)
+{
+    return draw_length(source, 250 + below(source, 11), CODED_MOST, DATA_MOST);
+}
+
+/* The code that bytes give, behind those of which `code` is the code. */
+static uint8_t code_of(uint8_t code, const uint8_t *bytes, size_t length)
+{
+    for (size_t i = 0; i < length; i++) {
+        code ^= bytes[i];
+        for (int bit = 0; bit < 8; bit++)
+            code = (uint8_t)(code << 1 ^ (code & 0x80 ? 0x07 : 0));
+    }
+    return code;
+}
+
+/* The right code most of the time, else with one bit turned, or any. Data that have none get that of
+   a count cut to a byte. */
+static uint8_t draw_code(struct source *source, const struct transaction *drawn)
+{
+    const uint8_t before[] = {drawn->attributes.address, drawn->attributes.command,
+                              (uint8_t)drawn->length};
+    uint8_t code = code_of(code_of(0, before, sizeof before), drawn->bytes, drawn->length);
+    switch (below(source, 32)) {
+    case 0:
+        return (uint8_t)(code ^ 1 << below(source, 8));
+    case 1:
+        return (uint8_t)below(source, 256);
+    default:
+        return code;
+    }
+}
+
 struct transaction draw_transaction(struct source *source, const tco_state *state)
 {
     struct transaction drawn;
-    drawn.command = draw_command(source, state->account.open_fragments > 0);
-    drawn.link_up = !one_in(source, 8);
-    if (drawn.command == TCO_COMMAND_RECEIVE_ENABLE)
+    tco_transaction *attributes = &drawn.attributes;
+    attributes->address = (uint8_t)below(source, 256);
+    attributes->command = draw_command(source, state->account.open_fragments > 0);
+    attributes->link_up = !one_in(source, 8);
+    if (attributes->command == TCO_COMMAND_RECEIVE_ENABLE)
         drawn.length = PICK(source, 1, 1, 1, 14, 14, 14, 0, 2, 13, 15, 255, 256 + 1, 256 + 14);
     else
         drawn.length = draw_fragment_length(source, state);
     fill(source, drawn.bytes, sizeof drawn.bytes);
-    if (drawn.command == TCO_COMMAND_RECEIVE_ENABLE && !one_in(source, 4))
+    if (attributes->command == TCO_COMMAND_RECEIVE_ENABLE && !one_in(source, 4))
         drawn.bytes[0] = draw_control(source);
+    attributes->code = draw_code(source, &drawn);
     return drawn;
 }
 

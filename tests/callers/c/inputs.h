@@ -16,15 +16,14 @@ enum {
 };
 
 struct transaction {
-    uint8_t command;
+    tco_transaction attributes;
     uint8_t bytes[DATA_MOST];
     size_t length;
-    bool link_up;
 };
 
 /* A sound state: fresh, in use, or with little or no room left in its account. */
 tco_state draw_state(struct source *source);
-/* Changes one number of a state, often so that it is not sound, or all. */
+/* Changes one number of a state or its check, often so that it is not sound, or all. */
 void alter_state(struct source *source, tco_state *state);
 
 /* Sound settings, and any bytes after them. */
@@ -32,8 +31,12 @@ void draw_settings(struct source *source, uint8_t settings[SETTINGS_MOST]);
 /* Changes one byte of settings that decides whether they are sound, or all. */
 void alter_settings(struct source *source, uint8_t settings[SETTINGS_MOST]);
 
-/* A transaction for this state: often one that goes on with its open packet. */
+/* A transaction for this state: often one that goes on with its open packet, most of the time with
+   the right code. */
 struct transaction draw_transaction(struct source *source, const tco_state *state);
+
+/* A length of data, often about the most that has a code. */
+size_t draw_coded_length(struct source *source);
 
 /* Fields of status data that are allowed, but for one or two of them at times. */
 tco_status draw_status(struct source *source);

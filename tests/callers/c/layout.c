@@ -8,25 +8,36 @@
     _Static_assert(sizeof(type) == (size) && _Alignof(type) == (align), #type)
 #define AT(type, field, offset) _Static_assert(offsetof(type, field) == (offset), #type "." #field)
 
-SIZE(tco_account, 256, 8);
+SIZE(tco_account, 280, 8);
 AT(tco_account, grid, 0);
-AT(tco_account, open_fragments, 216);
-AT(tco_account, open_bytes, 224);
-AT(tco_account, taken, 232);
-AT(tco_account, refused, 240);
-AT(tco_account, total, 248);
+AT(tco_account, open_fragments, 240);
+AT(tco_account, open_bytes, 248);
+AT(tco_account, taken, 256);
+AT(tco_account, refused, 264);
+AT(tco_account, total, 272);
 
-SIZE(tco_state, 264, 8);
+SIZE(tco_state, 296, 8);
 AT(tco_state, account, 0);
-AT(tco_state, maximum, 256);
+AT(tco_state, maximum, 280);
+AT(tco_state, check, 288);
+
+SIZE(tco_transaction, 4, 1);
+AT(tco_transaction, address, 0);
+AT(tco_transaction, command, 1);
+AT(tco_transaction, code, 2);
+AT(tco_transaction, link_up, 3);
 
 SIZE(tco_reply, 8, 4);
 AT(tco_reply, answer, 0);
 AT(tco_reply, sent, 4);
 
-SIZE(tco_made, 272, 8);
+SIZE(tco_made, 304, 8);
 AT(tco_made, answer, 0);
 AT(tco_made, state, 8);
+
+SIZE(tco_code, 8, 4);
+AT(tco_code, answer, 0);
+AT(tco_code, code, 4);
 
 SIZE(tco_part, 12, 4);
 AT(tco_part, source, 0);
@@ -82,6 +93,7 @@ IS(TCO_NOT_SOUND, 13);
 IS(TCO_FULL, 14);
 IS(TCO_BAD_STATUS, 15);
 IS(TCO_BAD_MAXIMUM, 16);
+IS(TCO_BAD_CHECK, 17);
 
 IS(TCO_ROW_SENT, 0);
 IS(TCO_ROW_SUPERSEDED, 1);
@@ -92,7 +104,8 @@ IS(TCO_ROW_SHORT, 5);
 IS(TCO_ROW_LINK_DOWN, 6);
 IS(TCO_ROW_ABORTED, 7);
 IS(TCO_ROW_BAD_LENGTH, 8);
-IS(TCO_ROWS, 9);
+IS(TCO_ROW_BAD_CHECK, 9);
+IS(TCO_ROWS, 10);
 IS(TCO_COLUMNS, 3);
 
 IS(TCO_MAXIMUM, 240);
@@ -100,7 +113,7 @@ IS(TCO_STORE_SIZE, 1536);
 IS(TCO_SETTINGS_SIZE, 15);
 IS(TCO_FLASH_SIZE, 10);
 IS(TCO_STATUS_SIZE, 8);
-IS(TCO_PRINTOUT_SIZE, 846);
+IS(TCO_PRINTOUT_SIZE, 920);
 
 IS(TCO_FIELD_NONE, 0);
 IS(TCO_FIELD_BLOCK_SIZE, 1);

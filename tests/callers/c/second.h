@@ -4,11 +4,13 @@
 
 #include "tco.h"
 
-tco_made second_fresh_state(uint32_t maximum);
+tco_made second_fresh_state(uint32_t maximum, bool check);
 uint32_t second_fresh_settings(uint8_t *settings, size_t settings_len);
 tco_reply second_transact(tco_state *state, uint8_t *store, size_t store_len, uint8_t *settings,
-                          size_t settings_len, uint8_t command, const uint8_t *bytes,
-                          size_t bytes_len, bool link_up);
+                          size_t settings_len, tco_transaction transaction, const uint8_t *bytes,
+                          size_t bytes_len);
+tco_code second_check_code(uint8_t address, uint8_t command, const uint8_t *bytes,
+                           size_t bytes_len);
 size_t second_shown(const uint8_t *store, size_t store_len, size_t length);
 tco_part second_mac_in_force(const uint8_t *settings, size_t settings_len, const uint8_t *flash,
                              size_t flash_len);

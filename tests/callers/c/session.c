@@ -67,6 +67,14 @@ static void same(const struct kept *kept, const char *what, uint64_t got, uint64
     failed(kept, what);
 }
 
+static void intact(const struct kept *kept, const char *what, const struct guarded *lent)
+{
+    if (guarded_intact(lent))
+        return;
+    fprintf(stderr, "a byte beside the buffer has changed\n");
+    failed(kept, what);
+}
+
 static void same_bytes(const struct kept *kept, const char *what, const struct guarded *lent,
                        const void *wanted)
 {
@@ -78,27 +86,27 @@ static void same_bytes(const struct kept *kept, const char *what, const struct g
         fprintf(stderr, "byte %zu of %zu\n", place, lent->length);
         same(kept, what, lent->at[place], bytes[place]);
     }
-    if (!guarded_intact(lent)) {
-        fprintf(stderr, "a byte beside the buffer has changed\n");
-        failed(kept, what);
-    }
+    intact(kept, what, lent);
 }
 
+/* What lies behind the check is padding, which may have any bytes. */
 static void same_state(const struct kept *kept, tco_state got, tco_state wanted)
 {
-    uint64_t numbers[2][sizeof(tco_state) / sizeof(uint64_t)];
-    memcpy(numbers[0], &got, sizeof got);
-    memcpy(numbers[1], &wanted, sizeof wanted);
+    uint64_t numbers[2][offsetof(tco_state, check) / sizeof(uint64_t)];
+    memcpy(numbers[0], &got, sizeof *numbers);
+    memcpy(numbers[1], &wanted, sizeof *numbers);
     for (size_t i = 0; i < sizeof *numbers / sizeof **numbers; i++)
         same(kept, "a number of the state", numbers[0][i], numbers[1][i]);
+    same(kept, "the check of the state", got.check, wanted.check);
 }
 
 static void fresh_state(struct kept *kept)
 {
     uint32_t maximum = (uint32_t)PICK(kept->source, 0, 1, 2, 239, 240, 241, 255, 256, 257,
                                       UINT32_MAX, below(kept->source, 1 << 16));
-    tco_made got = tco_fresh_state(maximum);
-    tco_made wanted = second_fresh_state(maximum);
+    bool check = one_in(kept->source, 2);
+    tco_made got = tco_fresh_state(maximum, check);
+    tco_made wanted = second_fresh_state(maximum, check);
     same(kept, "answer", got.answer, wanted.answer);
     same_state(kept, got.state, wanted.state);
 }
@@ -133,23 +141,39 @@ static void transact(struct kept *kept)
     const uint8_t *lent_bytes = lend(kept, &of_bytes, drawn.bytes, drawn.length);
     tco_reply got =
         tco_transact(lent_state, lent_store, store_length, lent_settings, settings_length,
-                     drawn.command, lent_bytes, drawn.length, drawn.link_up);
+                     drawn.attributes, lent_bytes, drawn.length);
     tco_reply wanted =
         second_transact(&state, kept->store, store_length, settings, settings_length,
-                        drawn.command, drawn.bytes, drawn.length, drawn.link_up);
+                        drawn.attributes, drawn.bytes, drawn.length);
     same(kept, "answer", got.answer, wanted.answer);
     same(kept, "sent length", got.sent, wanted.sent);
     same_state(kept, *lent_state, state);
-    same_bytes(kept, "state", &of_state, &state);
+    intact(kept, "state", &of_state);
     same_bytes(kept, "store", &of_store, kept->store);
     same_bytes(kept, "settings", &of_settings, settings);
     same_bytes(kept, "data bytes", &of_bytes, drawn.bytes);
 
     /* What was altered and then not counted may be rejected for good. */
-    if (wanted.answer <= TCO_ENABLED) {
+    if (wanted.answer <= TCO_ENABLED || wanted.answer == TCO_BAD_CHECK) {
         kept->state = state;
         memcpy(kept->settings, settings, sizeof settings);
     }
+}
+
+static void check_code(struct kept *kept)
+{
+    struct source *source = kept->source;
+    uint8_t address = (uint8_t)below(source, 256);
+    uint8_t command = (uint8_t)below(source, 256);
+    uint8_t bytes[DATA_MOST];
+    size_t length = draw_coded_length(source);
+    fill(source, bytes, sizeof bytes);
+    const uint8_t *lent = lend(kept, &of_bytes, bytes, length);
+    tco_code got = tco_check_code(address, command, lent, length);
+    tco_code wanted = second_check_code(address, command, bytes, length);
+    same(kept, "answer", got.answer, wanted.answer);
+    same(kept, "code", got.code, wanted.code);
+    same_bytes(kept, "data bytes", &of_bytes, bytes);
 }
 
 static void shown(struct kept *kept)
@@ -265,6 +289,7 @@ static const struct {
     {"tco_transact", transact},
     {"tco_fresh_state", fresh_state},
     {"tco_fresh_settings", fresh_settings},
+    {"tco_check_code", check_code},
     {"tco_shown", shown},
     {"tco_mac_in_force", mac_in_force},
     {"tco_ipv4_in_force", ipv4_in_force},

@@ -1,11 +1,11 @@
 //! The static library as a Rust program calls it.
 
 use second::interface::{
-    Account, Link, Made, Part, Reply, State, Status, StatusRead, StatusWritten,
+    Account, Code, Link, Made, Part, Reply, State, Status, StatusRead, StatusWritten, Transaction,
 };
 
 extern "C" {
-    fn tco_fresh_state(maximum: u32) -> Made;
+    fn tco_fresh_state(maximum: u32, check: bool) -> Made;
     fn tco_fresh_settings(settings: *mut u8, settings_len: usize) -> u32;
     fn tco_transact(
         state: *mut State,
@@ -13,11 +13,11 @@ extern "C" {
         store_len: usize,
         settings: *mut u8,
         settings_len: usize,
-        command: u8,
+        transaction: Transaction,
         bytes: *const u8,
         bytes_len: usize,
-        link_up: bool,
     ) -> Reply;
+    fn tco_check_code(address: u8, command: u8, bytes: *const u8, bytes_len: usize) -> Code;
     fn tco_shown(store: *const u8, store_len: usize, length: usize) -> usize;
     fn tco_mac_in_force(
         settings: *const u8,
@@ -41,8 +41,8 @@ extern "C" {
 // length says, and no two slices that are lent at once share a byte where one
 // of them can be written.
 
-pub fn fresh_state(maximum: u32) -> Made {
-    unsafe { tco_fresh_state(maximum) }
+pub fn fresh_state(maximum: u32, check: bool) -> Made {
+    unsafe { tco_fresh_state(maximum, check) }
 }
 
 pub fn fresh_settings(settings: &mut [u8]) -> u32 {
@@ -53,9 +53,8 @@ pub fn transact(
     state: &mut State,
     store: &mut [u8],
     settings: &mut [u8],
-    command: u8,
+    transaction: Transaction,
     bytes: &[u8],
-    link_up: bool,
 ) -> Reply {
     unsafe {
         tco_transact(
@@ -64,12 +63,15 @@ pub fn transact(
             store.len(),
             settings.as_mut_ptr(),
             settings.len(),
-            command,
+            transaction,
             bytes.as_ptr(),
             bytes.len(),
-            link_up,
         )
     }
+}
+
+pub fn check_code(address: u8, command: u8, bytes: &[u8]) -> Code {
+    unsafe { tco_check_code(address, command, bytes.as_ptr(), bytes.len()) }
 }
 
 pub fn shown(store: &[u8], length: usize) -> usize {

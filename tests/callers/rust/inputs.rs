@@ -2,16 +2,17 @@
 //! at all.
 
 use reference::account::{
-    Account, Fate, BYTES, FATES, FRAGMENTS, HIGHEST_TOTAL, LONGEST_FRAGMENT, PACKETS, ROWS,
+    Account, BYTES, FATES, FRAGMENTS, HIGHEST_TOTAL, LONGEST_FRAGMENT, PACKETS, ROWS,
 };
 use reference::packet::LONGEST_PACKET;
+use reference::pec;
 use reference::random::Random;
 use reference::settings::{CBDM, LONG_FORM_BYTES, MAC_KEPT, SETTINGS_BYTES, SHORT_FORM_BYTES};
 use reference::state::{State, HIGHEST_MAXIMUM};
 use reference::translator::{
     FIRST, FIRST_FRAGMENT, LAST, LAST_FRAGMENT, MIDDLE_FRAGMENT, RECEIVE_ENABLE, WHOLE_PACKET,
 };
-use second::interface::{Status, BLOCK_BYTES};
+use second::interface::{Status, Transaction, BLOCK_BYTES};
 
 /// The most bytes of a store, of settings, of data and of a status block that
 /// are lent.
@@ -20,6 +21,9 @@ pub const SETTINGS_MOST: usize = 40;
 pub const DATA_MOST: usize = 600;
 pub const BLOCK_MOST: usize = 20;
 
+/// More data bytes have no code.
+const CODED_MOST: usize = u8::MAX as usize;
+
 /// The lowest bits of the fields of a status block. The match of an index lies
 /// above it.
 const PACKET_STATUS_BIT: u64 = 16;
@@ -27,30 +31,24 @@ const VLAN_INDEX_BIT: u64 = 48;
 const DECISION_INDEX_BIT: u64 = 52;
 const MNG_RESERVED_BIT: u64 = 57;
 
-/// A transaction.
-pub struct Transaction {
-    pub command: u8,
-    pub bytes: Vec<u8>,
-    pub link_up: bool,
-}
-
 /// A sound state: fresh, in use, or with little or no room left in its account.
 pub fn state(random: &mut Random) -> State {
     let maximum =
         if random.one_in(2) { HIGHEST_MAXIMUM } else { random.between(1, HIGHEST_MAXIMUM) };
+    let check = random.below(2) as u8;
     let mut account = Account::default();
     if random.one_in(2) {
-        return State { account, maximum };
+        return State { account, maximum, check };
     }
     let many = random.pick(&[2, 1000, HIGHEST_TOTAL / (FATES as u64 + 1)]);
     for fate in ROWS {
         let fragments = random.below(many);
         let row = &mut account.grid[fate as usize];
         row[FRAGMENTS] = fragments;
-        if fate != Fate::BadLength {
+        if fate.has_bytes() {
             row[BYTES] = random.between(0, LONGEST_FRAGMENT * fragments);
         }
-        if fate != Fate::BadLength && fate != Fate::Aborted {
+        if fate.has_packets() {
             row[PACKETS] = random.between(0, fragments);
         }
     }
@@ -65,21 +63,25 @@ pub fn state(random: &mut Random) -> State {
         account.taken += left;
         account.total += left;
     }
-    State { account, maximum }
+    State { account, maximum, check }
 }
 
-/// The same sound state with one number changed, often so that it is not
-/// sound, or with all changed.
+/// The same sound state with one number or the check changed, often so that it
+/// is not sound, or with all changed.
 pub fn altered(random: &mut Random, state: &State) -> State {
     let mut altered = match random.below(8) {
-        0 => State::of_numbers(std::array::from_fn(|_| random.u64() >> random.below(64))),
+        0 => {
+            let numbers = std::array::from_fn(|_| random.u64() >> random.below(64));
+            State::of_numbers(numbers, random.byte())
+        }
         1 => return State { maximum: altered_number(random, state.maximum), ..*state },
         2 => return open_past_maximum(random, state),
+        3 => return State { check: random.pick(&[0, 1, 2, 3, 0x80, 0x81, u8::MAX]), ..*state },
         _ => {
             let mut numbers = state.numbers();
             let place = random.below(numbers.len() as u64) as usize;
             numbers[place] = altered_number(random, numbers[place]);
-            State::of_numbers(numbers)
+            State::of_numbers(numbers, state.check)
         }
     };
     if random.one_in(2) {
@@ -110,12 +112,12 @@ fn altered_number(random: &mut Random, number: u64) -> u64 {
 /// The state with bytes that its maximum does not allow for so many open
 /// fragments, though a larger one may.
 fn open_past_maximum(random: &mut Random, state: &State) -> State {
-    let State { mut account, maximum } = *state;
+    let mut account = state.account;
     account.open_fragments = random.pick(&[1, 2, 7]);
-    let least = maximum * account.open_fragments + 1;
+    let least = state.maximum * account.open_fragments + 1;
     account.open_bytes = random.between(least, LONGEST_FRAGMENT * account.open_fragments + 1);
     account.total = sum(&account);
-    State { account, maximum }
+    State { account, ..*state }
 }
 
 fn sum(account: &Account) -> u64 {
@@ -151,14 +153,35 @@ fn control(random: &mut Random) -> u8 {
     random.pick(&[0x40, 0x41, 0x48, 0x49, 0x61, 0x6f, 0xc1, 0xc9, 0xdf])
 }
 
-/// A transaction for this state: often one that goes on with its open packet.
-pub fn transaction(random: &mut Random, state: &State) -> Transaction {
+/// A transaction for this state and its data: often one that goes on with the
+/// open packet, most of the time with the right code.
+pub fn transaction(random: &mut Random, state: &State) -> (Transaction, Vec<u8>) {
+    let address = random.byte();
     let command = command(random, state.account.open_fragments > 0);
     let link_up = !random.one_in(8);
-    if command != RECEIVE_ENABLE {
+    let bytes = if command == RECEIVE_ENABLE {
+        enable_bytes(random)
+    } else {
         let length = fragment_length(random, state);
-        return Transaction { command, bytes: random.bytes(length), link_up };
+        random.bytes(length)
+    };
+    let code = code(random, address, command, &bytes);
+    (Transaction { address, command, code, link_up }, bytes)
+}
+
+/// The right code most of the time, else with one bit turned, or any. Data that
+/// have none get that of a count cut to a byte.
+fn code(random: &mut Random, address: u8, command: u8, bytes: &[u8]) -> u8 {
+    let before = pec::by_bits(0, &[address, command, bytes.len() as u8]);
+    let code = pec::by_bits(before, bytes);
+    match random.below(32) {
+        0 => code ^ 1 << random.below(8),
+        1 => random.byte(),
+        _ => code,
     }
+}
+
+fn enable_bytes(random: &mut Random) -> Vec<u8> {
     let length = match random.below(8) {
         0..=2 => SHORT_FORM_BYTES,
         3..=5 => LONG_FORM_BYTES,
@@ -168,7 +191,7 @@ pub fn transaction(random: &mut Random, state: &State) -> Transaction {
     if length > 0 && !random.one_in(4) {
         bytes[0] = control(random);
     }
-    Transaction { command, bytes, link_up }
+    bytes
 }
 
 fn command(random: &mut Random, is_open: bool) -> u8 {
@@ -187,7 +210,10 @@ fn command(random: &mut Random, is_open: bool) -> u8 {
 fn fragment_length(random: &mut Random, state: &State) -> usize {
     let maximum = state.maximum;
     let length = match random.below(8) {
-        0 => random.pick(&[0, 1, maximum - 1, maximum + 1, 240, 241, 255, 256, 257]),
+        0 => {
+            let coded = coded_length(random) as u64;
+            random.pick(&[0, 1, maximum - 1, maximum + 1, 240, 241, coded, coded])
+        }
         1 => random.below(DATA_MOST as u64),
         2 => 1 + random.below(maximum),
         3 => {
@@ -198,6 +224,12 @@ fn fragment_length(random: &mut Random, state: &State) -> usize {
         _ => maximum,
     };
     length as usize
+}
+
+/// A length of data, often about the most that has a code.
+pub fn coded_length(random: &mut Random) -> usize {
+    let usual = 250 + random.below(11) as usize;
+    length(random, usual, CODED_MOST, DATA_MOST)
 }
 
 /// Fields of status data that are allowed, but for one or two of them at times.

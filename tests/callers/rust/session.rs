@@ -3,11 +3,12 @@
 
 use std::fmt::Debug;
 
+use reference::answer_numbers::{BAD_CHECK, RECEIVE_ENABLE_TAKEN};
 use reference::packet::LONGEST_PACKET;
 use reference::printout::ENOUGH_ROOM;
 use reference::random::Random;
 use reference::settings::{FLASH_BYTES, SETTINGS_BYTES};
-use reference::{answer_numbers, state};
+use reference::state;
 use second::interface::{Part, State};
 
 use crate::guarded::{Guarded, GuardedState};
@@ -26,10 +27,11 @@ struct Operation {
     call: fn(&mut Session) -> Found,
 }
 
-const OPERATIONS: [Operation; 10] = [
+const OPERATIONS: [Operation; 11] = [
     Operation { share: 20, name: "tco_transact", call: Session::transact },
     Operation { share: 1, name: "tco_fresh_state", call: Session::fresh_state },
     Operation { share: 1, name: "tco_fresh_settings", call: Session::fresh_settings },
+    Operation { share: 1, name: "tco_check_code", call: Session::check_code },
     Operation { share: 1, name: "tco_shown", call: Session::shown },
     Operation { share: 1, name: "tco_mac_in_force", call: Session::mac_in_force },
     Operation { share: 1, name: "tco_ipv4_in_force", call: Session::ipv4_in_force },
@@ -86,7 +88,7 @@ impl Session {
     }
 
     fn transact(&mut self) -> Found {
-        let drawn = inputs::transaction(&mut self.random, &self.state);
+        let (transaction, bytes) = inputs::transaction(&mut self.random, &self.state);
         let mut state = State::from(&self.state_for_call(16));
         let mut settings = self.settings_for_call(16);
         let store_length = self.store_length();
@@ -95,32 +97,31 @@ impl Session {
         let mut lent_state = GuardedState::new(state);
         let mut lent_store = Guarded::new(&self.store[..store_length], &mut self.random);
         let mut lent_settings = Guarded::new(&settings[..settings_length], &mut self.random);
-        let lent_bytes = Guarded::new(&drawn.bytes, &mut self.random);
+        let lent_bytes = Guarded::new(&bytes, &mut self.random);
         let got = archive::transact(
             &mut lent_state.state,
             &mut lent_store,
             &mut lent_settings,
-            drawn.command,
+            transaction,
             &lent_bytes,
-            drawn.link_up,
         );
         let wanted = second::transact(
             &mut state,
             &mut self.store[..store_length],
             &mut settings[..settings_length],
-            drawn.command,
-            &drawn.bytes,
-            drawn.link_up,
+            transaction,
+            &bytes,
         );
         same("reply", got, wanted)?;
         same("state", lent_state.state, state)?;
         guarded("state", lent_state.intact())?;
         same_bytes("store", &lent_store, &self.store[..store_length])?;
         same_bytes("settings", &lent_settings, &settings[..settings_length])?;
-        same_bytes("data", &lent_bytes, &drawn.bytes)?;
+        same_bytes("data", &lent_bytes, &bytes)?;
 
         // What was altered and then not counted may be rejected for good.
-        if wanted.answer <= answer_numbers::RECEIVE_ENABLE_TAKEN.into() {
+        let counted = wanted.answer <= RECEIVE_ENABLE_TAKEN.into();
+        if counted || wanted.answer == BAD_CHECK.into() {
             self.state = (&state).into();
             self.settings = settings;
         }
@@ -131,7 +132,8 @@ impl Session {
         let any = self.random.u32();
         let edges = [0, 1, 2, 239, 240, 241, 255, 256, 257, u32::MAX, any, any % 256];
         let maximum = self.random.pick(&edges);
-        same("made", archive::fresh_state(maximum), second::fresh_state(maximum))
+        let check = self.random.one_in(2);
+        same("made", archive::fresh_state(maximum, check), second::fresh_state(maximum, check))
     }
 
     fn fresh_settings(&mut self) -> Found {
@@ -141,6 +143,17 @@ impl Session {
         let wanted = second::fresh_settings(&mut self.settings[..length]);
         same("answer", got, wanted)?;
         same_bytes("settings", &lent, &self.settings[..length])
+    }
+
+    fn check_code(&mut self) -> Found {
+        let address = self.random.byte();
+        let command = self.random.byte();
+        let length = inputs::coded_length(&mut self.random);
+        let bytes = self.random.bytes(length);
+        let lent = Guarded::new(&bytes, &mut self.random);
+        let got = archive::check_code(address, command, &lent);
+        same("code", got, second::check_code(address, command, &bytes))?;
+        same_bytes("data", &lent, &bytes)
     }
 
     fn shown(&mut self) -> Found {

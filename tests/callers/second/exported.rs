@@ -11,12 +11,12 @@
 use std::slice::{from_raw_parts, from_raw_parts_mut};
 
 use crate::interface::{
-    Account, Link, Made, Part, Reply, State, Status, StatusRead, StatusWritten,
+    Account, Code, Link, Made, Part, Reply, State, Status, StatusRead, StatusWritten, Transaction,
 };
 
 #[no_mangle]
-pub extern "C" fn second_fresh_state(maximum: u32) -> Made {
-    crate::fresh_state(maximum)
+pub extern "C" fn second_fresh_state(maximum: u32, check: bool) -> Made {
+    crate::fresh_state(maximum, check)
 }
 
 #[no_mangle]
@@ -31,19 +31,27 @@ pub unsafe extern "C" fn second_transact(
     store_len: usize,
     settings: *mut u8,
     settings_len: usize,
-    command: u8,
+    transaction: Transaction,
     bytes: *const u8,
     bytes_len: usize,
-    link_up: bool,
 ) -> Reply {
     crate::transact(
         state,
         from_raw_parts_mut(store, store_len),
         from_raw_parts_mut(settings, settings_len),
-        command,
+        transaction,
         from_raw_parts(bytes, bytes_len),
-        link_up,
     )
+}
+
+#[no_mangle]
+pub unsafe extern "C" fn second_check_code(
+    address: u8,
+    command: u8,
+    bytes: *const u8,
+    bytes_len: usize,
+) -> Code {
+    crate::check_code(address, command, from_raw_parts(bytes, bytes_len))
 }
 
 #[no_mangle]

@@ -4,7 +4,7 @@ use std::mem::{align_of, size_of};
 use std::ptr::addr_of;
 
 /// The numbers of the grid.
-pub const GRID: usize = 27;
+pub const GRID: usize = 30;
 /// The bytes of a status block.
 pub const BLOCK_BYTES: usize = 8;
 
@@ -26,6 +26,17 @@ pub struct Account {
 pub struct State {
     pub account: Account,
     pub maximum: u64,
+    pub check: u8,
+}
+
+/// `tco_transaction`
+#[repr(C)]
+#[derive(Clone, Copy, Debug, Default, PartialEq, Eq)]
+pub struct Transaction {
+    pub address: u8,
+    pub command: u8,
+    pub code: u8,
+    pub link_up: bool,
 }
 
 /// `tco_reply`
@@ -42,6 +53,14 @@ pub struct Reply {
 pub struct Made {
     pub answer: u32,
     pub state: State,
+}
+
+/// `tco_code`
+#[repr(C)]
+#[derive(Clone, Copy, Debug, Default, PartialEq, Eq)]
+pub struct Code {
+    pub answer: u32,
+    pub code: u8,
 }
 
 /// `tco_part`
@@ -110,11 +129,13 @@ macro_rules! layout {
     };
 }
 layout! {
-    Account, size 256, align 8, grid 0, open_fragments 216, open_bytes 224, taken 232, refused 240,
-        total 248;
-    State, size 264, align 8, account 0, maximum 256;
+    Account, size 280, align 8, grid 0, open_fragments 240, open_bytes 248, taken 256, refused 264,
+        total 272;
+    State, size 296, align 8, account 0, maximum 280, check 288;
+    Transaction, size 4, align 1, address 0, command 1, code 2, link_up 3;
     Reply, size 8, align 4, answer 0, sent 4;
-    Made, size 272, align 8, answer 0, state 8;
+    Made, size 304, align 8, answer 0, state 8;
+    Code, size 8, align 4, answer 0, code 4;
     Part, size 12, align 4, source 0, start 4, length 8;
     Status, size 8, align 2, length 0, vlan 2, decision_match 4, decision_index 5, vlan_match 6,
         vlan_index 7;

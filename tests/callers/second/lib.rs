@@ -7,10 +7,11 @@ pub mod interface;
 use reference::setlink::{Media, FAILED, INVALID_PARAMETER};
 use reference::settings::AddressInForce;
 use reference::status::StatusData;
-use reference::{account, packet, printout, setlink, settings, state, status, translator};
+use reference::{account, packet, pec, printout, setlink, settings, state, status, translator};
 
 use crate::interface::{
-    Account, Link, Made, Part, Reply, State, Status, StatusRead, StatusWritten, BLOCK_BYTES,
+    Account, Code, Link, Made, Part, Reply, State, Status, StatusRead, StatusWritten, Transaction,
+    BLOCK_BYTES,
 };
 
 /// Copper, as `tco_set_link` numbers the media.
@@ -53,13 +54,20 @@ impl From<&Account> for account::Account {
 
 impl From<&state::State> for State {
     fn from(own: &state::State) -> State {
-        State { account: (&own.account).into(), maximum: own.maximum }
+        State { account: (&own.account).into(), maximum: own.maximum, check: own.check }
     }
 }
 
 impl From<&State> for state::State {
     fn from(lent: &State) -> state::State {
-        state::State { account: (&lent.account).into(), maximum: lent.maximum }
+        state::State { account: (&lent.account).into(), maximum: lent.maximum, check: lent.check }
+    }
+}
+
+impl From<Transaction> for translator::Transaction {
+    fn from(lent: Transaction) -> translator::Transaction {
+        let Transaction { address, command, code, link_up } = lent;
+        translator::Transaction { address, command, code, link_up }
     }
 }
 
@@ -79,8 +87,8 @@ impl From<Status> for StatusData {
 }
 
 /// `tco_fresh_state`
-pub fn fresh_state(maximum: u32) -> Made {
-    let (answer, state) = state::fresh(maximum);
+pub fn fresh_state(maximum: u32, check: bool) -> Made {
+    let (answer, state) = state::fresh(maximum, check);
     Made { answer: answer.into(), state: (&state).into() }
 }
 
@@ -94,14 +102,19 @@ pub fn transact(
     state: &mut State,
     store: &mut [u8],
     settings: &mut [u8],
-    command: u8,
+    transaction: Transaction,
     bytes: &[u8],
-    link_up: bool,
 ) -> Reply {
     let mut own = state::State::from(&*state);
-    let (answer, sent) = translator::transact(&mut own, store, settings, command, bytes, link_up);
+    let (answer, sent) = translator::transact(&mut own, store, settings, transaction.into(), bytes);
     *state = (&own).into();
     Reply { answer: answer.into(), sent: sent.into() }
+}
+
+/// `tco_check_code`
+pub fn check_code(address: u8, command: u8, bytes: &[u8]) -> Code {
+    let (answer, code) = pec::code(address, command, bytes);
+    Code { answer: answer.into(), code }
 }
 
 /// `tco_shown`
