@@ -14,6 +14,7 @@ use Rattle.state.proofs.AllRows.{row-sound-at, all-fragments-next, all-fragments
 use Rattle.state.specs.declared.Account.{Account}
 use Rattle.state.specs.declared.State.{State}
 use Rattle.state.specs.Account.{limit, row_count, packets_in, fragments_in, bytes_in, all_fragments}
+use Rattle.state.specs.Properties.{EverySound}
 use Rattle.state.specs.Sound.{row_sound, rows_sound, singles_sound, open_sound, sum_holds, account_sound, sound}
 use Rattle.state.specs.State.{max_maximum, check_on}
 
@@ -78,6 +79,13 @@ sound-if s k =
     if-true _ _ _ k.account-is-sound
     ∙ (if-true _ _ _ (le-leb _ _ k.least)
     ∙ (if-true _ _ _ (le-leb _ _ k.most) ∙ (if-true _ _ _ (le-leb _ _ k.bytes-within) ∙ le-leb _ _ k.check-allowed)))
+
+pub every-sound : EverySound
+every-sound = record {
+  maximum_least = λ s h. (sound-tells s h).least;
+  maximum_most = λ s h. (sound-tells s h).most;
+  check_most = λ s h. omega (arith, (sound-tells s h).check-allowed);
+}
 
 module _ (a : Account) where
   abbrev f : ℕ
